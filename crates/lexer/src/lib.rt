@@ -1,0 +1,26 @@
+// Continuations, sentinels and trivia of a directive line.
+
+// The language of a line, with the source form of Fortran.
+pub enum Language {
+    C,
+    FortranFree,
+    FortranFixed,
+}
+
+// The directives' prefix.
+pub enum Prefix {
+    Omp,
+    Acc,
+}
+
+// What trivia a text begins with: a run of so many bytes, 0 for none, or a comment without an end.
+pub enum Trivia {
+    Run(usize),
+    Open,
+}
+
+// The place after all trivia, or the place of a comment without an end.
+pub enum Skipped {
+    Past(usize),
+    OpenAt(usize),
+}

@@ -1,0 +1,4 @@
+pub mod Validation
+pub mod Joining
+pub mod Calls
+pub mod Laws

@@ -1,0 +1,105 @@
+-- Validation of a logical line (`validate_logical_line`): each end of line that more text follows must be continued.
+use Prim.Native.Nat.{ℕ, zero, suc, _+_, _-_}
+use mathlib.Core.Bool.{Bool, true, false, cond, not, _&&_, _||_}
+use mathlib.Core.Option.{Option, some, none}
+use mathlib.Core.List.{List, [], _∷_, reverse}
+use lib.ListN.{length, take, drop}
+use lib.Dec.{eqb, ltb}
+use Rattle.ascii.specs.Ascii.{isTrimmed, isBlank, isEol}
+use Rattle.ascii.specs.Text.{starts, leading, isBlankText}
+use Rattle.lexer.specs.declared.Language.{Language}
+use Rattle.lexer.specs.declared.Language.the-variants.{C, FortranFree, FortranFixed}
+use Rattle.lexer.specs.declared.Prefix.{Prefix}
+use Rattle.lexer.specs.Continuation.{sentinelEnded, sentinelAny}
+use Rattle.source.specs.declared.Checked.{Checked}
+use Rattle.source.specs.declared.Checked.the-variants.{Fine, WrongAt, Next}
+
+-- `fortran_line_has_trailing_continuation`, code: the bytes of a physical line up to its comment, literals seen, each line by itself;
+-- outside a literal, inside one with quote q, and after a quote in one that may be the first of two
+unfoldable mutual
+  pub codeOutside : List ℕ → ℕ
+  codeOutside [] = 0
+  codeOutside (x ∷ xs) = cond (eqb x 33) 0 (suc (cond (eqb x 39 || eqb x 34) (codeInside x xs) (codeOutside xs)))
+
+  pub codeInside : ℕ → List ℕ → ℕ
+  codeInside q [] = 0
+  codeInside q (x ∷ xs) = suc (cond (eqb x q) (codeQuote q xs) (codeInside q xs))
+
+  pub codeQuote : ℕ → List ℕ → ℕ
+  codeQuote q [] = 0
+  codeQuote q (x ∷ xs) = cond (eqb x q) (suc (codeInside q xs)) (cond (eqb x 33) 0 (suc (cond (eqb x 39 || eqb x 34) (codeInside x xs) (codeOutside xs))))
+
+-- the last byte that trimming leaves is b
+abbrev pub endsIn : ℕ → List ℕ → Bool
+endsIn b xs = starts b (drop (leading isTrimmed (reverse xs)) (reverse xs))
+
+abbrev pub unindented : List ℕ → List ℕ
+unindented xs = drop (leading isBlank xs) xs
+
+-- a physical line of Fortran without its indentation and sentinel
+abbrev pub contentF : Prefix → List ℕ → List ℕ
+contentF p line = drop (sentinelEnded p (unindented line)) (unindented line)
+
+-- `fortran_line_has_trailing_continuation`: its code ends in `&`
+unfoldable pub continuedF : Prefix → List ℕ → Bool
+unfolding codeOutside leading sentinelEnded
+continuedF p line = endsIn 38 (take (codeOutside (contentF p line)) (contentF p line))
+
+-- the physical line is continued; in C, its last byte is a backslash. "Fixed form uses the free-form `&`"
+abbrev pub continued : Language → Prefix → List ℕ → Bool
+continued C p line = starts 92 (reverse line)
+continued FortranFree p line = continuedF p line
+continued FortranFixed p line = continuedF p line
+
+-- a later line of Fortran that begins with the other prefix's sentinel
+abbrev pub foreignF : Prefix → List ℕ → Bool
+foreignF p line = ltb 0 (sentinelAny (unindented line)) && eqb (sentinelEnded p (unindented line)) 0
+
+abbrev pub foreign : Language → Prefix → List ℕ → Bool
+foreign C p line = false
+foreign FortranFree p line = foreignF p line
+foreign FortranFixed p line = foreignF p line
+
+-- the bytes of a text before its first LF or CR
+abbrev pub lineLength : List ℕ → ℕ
+lineLength xs = leading (λ b. not (isEol b)) xs
+
+-- the bytes of the end of line that a text begins with: LF or CR LF; 0 for "a lone CR"
+abbrev pub eolBytes : List ℕ → ℕ
+eolBytes [] = 0
+eolBytes (x ∷ xs) = cond (eqb x 13) (cond (starts 10 xs) 2 0) 1
+
+abbrev pub isOver : List ℕ → Bool
+isOver [] = true
+isOver (x ∷ xs) = false
+
+module _ (l : Language) (p : Prefix) where
+  -- what stands after a physical line: nothing; a lone CR, "refused where it stands"; "only whitespace", which ends the check;
+  -- or more text, to which the line must be continued
+  abbrev pub checkEnd : ℕ → List ℕ → List ℕ → Checked
+  checkEnd at line rest =
+      cond (isOver rest) Fine
+      (cond (eqb (eolBytes rest) 0) (WrongAt (at + length line))
+      (cond (isBlankText (drop (eolBytes rest) rest)) Fine
+      (cond (continued l p line) (Next (length line + eolBytes rest)) (WrongAt (at + length line)))))
+
+  -- the physical line at place at, with all that follows it
+  unfoldable pub checkLine : Bool → ℕ → List ℕ → Checked
+  unfolding leading sentinelAny sentinelEnded continuedF
+  checkLine later at xs =
+      cond (later && foreign l p (take (lineLength xs) xs)) (WrongAt (at + leading isBlank xs))
+      (checkEnd at (take (lineLength xs) xs) (drop (lineLength xs) xs))
+
+  -- physical line by physical line, once k bytes are passed over
+  unfoldable pub faultFrom : ℕ → ℕ → List ℕ → Option ℕ
+  unfolding checkLine
+  faultFrom zero at [] = none
+  faultFrom (suc k) at [] = none
+  faultFrom (suc k) at (x ∷ xs) = faultFrom k (suc at) xs
+  faultFrom zero at (x ∷ xs) =
+      elim (checkLine (ltb 0 at) at (x ∷ xs)) [ Fine ↦ none | WrongAt q ↦ some q | Next n ↦ faultFrom (n - 1) (suc at) xs ]
+
+  -- row 6, "validation fails, physical place": where a line first breaks the rule of its language
+  unfoldable pub fault : List ℕ → Option ℕ
+  unfolding faultFrom
+  fault line = faultFrom zero zero line
