@@ -1,0 +1,4 @@
+pub mod Format
+pub mod Book
+pub mod Check
+pub mod Lookup
