@@ -2,13 +2,17 @@
 use Prim.Native.Nat.{ℕ, zero, suc, _+_, _-_}
 use Prim.Native.Char.{code}
 use Prim.Native.String as S
-use mathlib.Core.Bool.{Bool, true, false, cond, _&&_}
+use mathlib.Core.Bool.{Bool, true, false, cond, not, _&&_}
 use mathlib.Core.Option.{Option, some, none}
 use mathlib.Core.List.{List, [], _∷_, _++_, reverse}
 use lib.ListN.{length, take, drop, getD, replicate}
 use lib.Dec.{eqb, ltb}
 use Rattle.ascii.specs.declared.Range.{Range}
-use Rattle.ascii.specs.Ascii.{isTrimmed}
+use Rattle.ascii.specs.declared.Found.{Found}
+use Rattle.ascii.specs.declared.Found.the-variants.{At, Nothing}
+use Rattle.ascii.specs.declared.ByteSet.{ByteSet}
+use Rattle.ascii.specs.declared.ByteSet.the-variants.{Trimmed, Space, Blank, Word, InLine}
+use Rattle.ascii.specs.Ascii.{isTrimmed, isSpace, isBlank, isEol, isWord, fold, exactly}
 
 -- the bytes of a quoted text
 abbrev pub bytes : S.String → List ℕ
@@ -67,3 +71,20 @@ firstHigh at (x ∷ xs) = cond (ltb 127 x) (some at) (firstHigh (suc at) xs)
 -- lent slots after a call: what is given first, the zero of their kind in all others
 abbrev pub padded : {A : Type 0} → A → ℕ → List A → List A
 padded z size xs = xs ++ replicate (size - length xs) z
+
+-- the declared answer of a search
+abbrev pub foundAt : Found → Option ℕ
+foundAt Nothing = none
+foundAt (At i) = some i
+
+-- how bytes compare: with case ignored or not
+abbrev pub comparing : Bool → ℕ → ℕ
+comparing ignoreCase = cond ignoreCase fold exactly
+
+-- the bytes of a named set
+abbrev pub holds : ByteSet → ℕ → Bool
+holds Trimmed = isTrimmed
+holds Space = isSpace
+holds Blank = isBlank
+holds Word = isWord
+holds InLine = λ b. not (isEol b)

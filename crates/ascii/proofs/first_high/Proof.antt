@@ -1,0 +1,32 @@
+-- `ascii::first_high` meets its contract. Invariant: the search from here on finds what the search from the start finds.
+-- Assumes nothing.
+use mathlib.Core.Path.{_≡_, refl}
+use Prim.Native.Nat.{_-_, _≤_}
+use native.Mathlib.Omega.{arith}
+use lib.ListN.{length, drop}
+use Rattle.ascii.specs.Text.{firstHigh}
+use Rattle.ascii.proofs.Texts.{high-here, high-later, high-none}
+use Rattle.ascii.proofs.first_high.Statement.{statement}
+use Rattle.ascii.proofs.first_high.Tie as tie
+
+abbrev Inv-loop : tie.InvT-loop
+Inv-loop text i₀ i = (i ≤ length text) × (firstHigh i (drop i text) ≡ firstHigh 0 text)
+
+abbrev μ-loop : tie.MeasureT-loop
+μ-loop text i₀ i = length text - i
+
+pub first-high-spec : {M : Type 1} → statement M
+first-high-spec =
+    tie.close
+    (tie.spec
+    Inv-loop
+    μ-loop
+    (λ c. (omega arith, refl))
+    (λ c. omega arith)
+    (λ c. let l : tie.In-loop Inv-loop μ-loop = c .before .before in
+    rw (high-here, l .loop-test .taken, c .if1 .taken) at (l .before .loop .inv .1))
+    (λ c. omega arith)
+    (λ c. omega arith)
+    (λ c. let l : tie.In-loop Inv-loop μ-loop = c .before .before in
+    (omega arith, rw (high-later, l .loop-test .taken, c .if1 .left) at (l .before .loop .inv .1)))
+    (λ c. rw (high-none, c .loop-test .left) at (c .before .loop .inv .1)))

@@ -1,0 +1,332 @@
+// The classes of the 256 bytes, and the questions that steps ask of a byte, each by its class.
+ghost use mathlib.Core.Path.{_≡_};
+ghost use Rattle.ascii.specs.Ascii.{classOf, isTrimmed, isSpace, isBlank, isEol, isDigit, isUpper, isLetter, isWord, fold as folded};
+
+// 1 blank and tab, 2 LF and CR, 3 FF, 4 VT, 5 digits, 6 upper-case letters, 7 lower-case letters, 8 underscore, 0 any other byte.
+const CLASSES: [u8; 256] = [
+    0,
+    0,
+    0,
+    0,
+    0,
+    0,
+    0,
+    0,
+    0,
+    1,
+    2,
+    4,
+    3,
+    2,
+    0,
+    0,
+    0,
+    0,
+    0,
+    0,
+    0,
+    0,
+    0,
+    0,
+    0,
+    0,
+    0,
+    0,
+    0,
+    0,
+    0,
+    0,
+    1,
+    0,
+    0,
+    0,
+    0,
+    0,
+    0,
+    0,
+    0,
+    0,
+    0,
+    0,
+    0,
+    0,
+    0,
+    0,
+    5,
+    5,
+    5,
+    5,
+    5,
+    5,
+    5,
+    5,
+    5,
+    5,
+    0,
+    0,
+    0,
+    0,
+    0,
+    0,
+    0,
+    6,
+    6,
+    6,
+    6,
+    6,
+    6,
+    6,
+    6,
+    6,
+    6,
+    6,
+    6,
+    6,
+    6,
+    6,
+    6,
+    6,
+    6,
+    6,
+    6,
+    6,
+    6,
+    6,
+    6,
+    6,
+    6,
+    0,
+    0,
+    0,
+    0,
+    8,
+    0,
+    7,
+    7,
+    7,
+    7,
+    7,
+    7,
+    7,
+    7,
+    7,
+    7,
+    7,
+    7,
+    7,
+    7,
+    7,
+    7,
+    7,
+    7,
+    7,
+    7,
+    7,
+    7,
+    7,
+    7,
+    7,
+    7,
+    0,
+    0,
+    0,
+    0,
+    0,
+    0,
+    0,
+    0,
+    0,
+    0,
+    0,
+    0,
+    0,
+    0,
+    0,
+    0,
+    0,
+    0,
+    0,
+    0,
+    0,
+    0,
+    0,
+    0,
+    0,
+    0,
+    0,
+    0,
+    0,
+    0,
+    0,
+    0,
+    0,
+    0,
+    0,
+    0,
+    0,
+    0,
+    0,
+    0,
+    0,
+    0,
+    0,
+    0,
+    0,
+    0,
+    0,
+    0,
+    0,
+    0,
+    0,
+    0,
+    0,
+    0,
+    0,
+    0,
+    0,
+    0,
+    0,
+    0,
+    0,
+    0,
+    0,
+    0,
+    0,
+    0,
+    0,
+    0,
+    0,
+    0,
+    0,
+    0,
+    0,
+    0,
+    0,
+    0,
+    0,
+    0,
+    0,
+    0,
+    0,
+    0,
+    0,
+    0,
+    0,
+    0,
+    0,
+    0,
+    0,
+    0,
+    0,
+    0,
+    0,
+    0,
+    0,
+    0,
+    0,
+    0,
+    0,
+    0,
+    0,
+    0,
+    0,
+    0,
+    0,
+    0,
+    0,
+    0,
+    0,
+    0,
+    0,
+    0,
+    0,
+    0,
+    0,
+    0,
+    0,
+    0,
+    0,
+    0,
+    0,
+    0,
+    0,
+    0,
+    0,
+    0,
+    0,
+    0,
+    0,
+    0,
+    0,
+    0,
+    0,
+];
+
+pub fn class_of(b: u8) -> u8
+    ensures { λ r. ⌜ r ≡ classOf b ⌝ }
+{
+    CLASSES[b as usize]
+}
+
+// What trimming takes: 9 to 13 and 32.
+pub fn is_trimmed(b: u8) -> bool
+    ensures { λ r. ⌜ r ≡ isTrimmed b ⌝ }
+{
+    let k = class_of(b);
+    (1 <= k) & (k <= 4)
+}
+
+// White space of trivia: 9, 10, 12, 13 and 32.
+pub fn is_space(b: u8) -> bool
+    ensures { λ r. ⌜ r ≡ isSpace b ⌝ }
+{
+    let k = class_of(b);
+    (1 <= k) & (k <= 3)
+}
+
+// Blank or tab.
+pub fn is_blank(b: u8) -> bool
+    ensures { λ r. ⌜ r ≡ isBlank b ⌝ }
+{
+    class_of(b) == 1
+}
+
+// LF or CR.
+pub fn is_eol(b: u8) -> bool
+    ensures { λ r. ⌜ r ≡ isEol b ⌝ }
+{
+    class_of(b) == 2
+}
+
+pub fn is_digit(b: u8) -> bool
+    ensures { λ r. ⌜ r ≡ isDigit b ⌝ }
+{
+    class_of(b) == 5
+}
+
+pub fn is_upper(b: u8) -> bool
+    ensures { λ r. ⌜ r ≡ isUpper b ⌝ }
+{
+    class_of(b) == 6
+}
+
+pub fn is_letter(b: u8) -> bool
+    ensures { λ r. ⌜ r ≡ isLetter b ⌝ }
+{
+    let k = class_of(b);
+    (6 <= k) & (k <= 7)
+}
+
+// A byte of a word: a letter, a digit or `_`.
+pub fn is_word(b: u8) -> bool
+    ensures { λ r. ⌜ r ≡ isWord b ⌝ }
+{
+    5 <= class_of(b)
+}
+
+// The lower-case letter of an upper-case one; every other byte is kept.
+pub fn fold(b: u8) -> u8
+    ensures { λ r. ⌜ r ≡ folded b ⌝ }
+{
+    if is_upper(b) { b + 32 } else { b }
+}
