@@ -1,2 +1,3 @@
 pub mod Table
 pub mod Answer
+pub mod Verdict

@@ -1,6 +1,11 @@
 // The table of refusals of document 01: each reason with its number, and a refusal with its place.
 ghost use mathlib.Core.Path.{_≡_};
+ghost use mathlib.Core.List.{_++_};
+ghost use Prim.Native.Nat.{_-_, _≤_};
+ghost use lib.ListN.{length, take, replicate};
 ghost use Rattle.refusal.specs.Table.{numberOf};
+ghost use Rattle.refusal.specs.Verdict.{textVerdict};
+use ascii::Found;
 
 pub enum Reason {
     // 1: the line or text has more than 16,384 bytes
@@ -72,5 +77,57 @@ pub fn number(reason: Reason) -> u8
         Reason::WrongClosing => 17,
         Reason::UnclosedBracket => 18,
         Reason::BadSpan => 19,
+    }
+}
+
+// What a check finds before a call goes on.
+pub enum Verdict {
+    Fine,
+    Bad(Refusal),
+}
+
+// The longest line or text.
+pub const MAX_LENGTH: usize = 16384;
+
+// Refusals 1 and 2: the length of a text, and its first byte above 127.
+pub fn check_text(text: &[u8]) -> Verdict
+    ensures { λ r. ⌜ r ≡ textVerdict (now (text .entry)) ⌝ }
+{
+    if MAX_LENGTH < text.len() {
+        return Verdict::Bad(Refusal {
+            reason: Reason::TooLong,
+            place: MAX_LENGTH,
+        });
+    }
+    match ascii::first_high(text) {
+        Found::Nothing => Verdict::Fine,
+        Found::At(place) => Verdict::Bad(Refusal {
+            reason: Reason::HighByte,
+            place,
+        }),
+    }
+}
+
+// Sets every slot from a place on to 0.
+pub fn clear_bytes(slots: &mut [u8], from: usize)
+    requires { ⌜ from ≤ length (now slots) ⌝ }
+    ensures { λ _. ⌜ now (slots .exit) ≡ take from (now (slots .entry)) ++ replicate (length (now (slots .entry)) - from) 0 ⌝ }
+{
+    let mut i = from;
+    while i < slots.len() {
+        slots[i] = 0;
+        i += 1;
+    }
+}
+
+// The same for 16-bit slots.
+pub fn clear_words(slots: &mut [u16], from: usize)
+    requires { ⌜ from ≤ length (now slots) ⌝ }
+    ensures { λ _. ⌜ now (slots .exit) ≡ take from (now (slots .entry)) ++ replicate (length (now (slots .entry)) - from) 0 ⌝ }
+{
+    let mut i = from;
+    while i < slots.len() {
+        slots[i] = 0;
+        i += 1;
     }
 }

@@ -1,9 +1,9 @@
 -- `ascii::first_high` meets its contract. Invariant: the search from here on finds what the search from the start finds.
 -- Assumes nothing.
 use mathlib.Core.Path.{_≡_, refl}
-use Prim.Native.Nat.{_-_, _≤_}
+use Prim.Native.Nat.{_-_, _<_, _≤_}
 use native.Mathlib.Omega.{arith}
-use lib.ListN.{length, drop}
+use lib.ListN.{length, drop, getD}
 use Rattle.ascii.specs.Text.{firstHigh}
 use Rattle.ascii.proofs.Texts.{high-here, high-later, high-none}
 use Rattle.ascii.proofs.first_high.Statement.{statement}
@@ -24,9 +24,11 @@ first-high-spec =
     (λ c. (omega arith, refl))
     (λ c. omega arith)
     (λ c. let l : tie.In-loop Inv-loop μ-loop = c .before .before in
-    rw (high-here, l .loop-test .taken, c .if1 .taken) at (l .before .loop .inv .1))
+    let h : 127 < getD (l .before .before .args .text .now) (l .before .loop .i) 0 = omega arith in
+    rw (high-here, l .loop-test .taken, h) at (l .before .loop .inv .1))
     (λ c. omega arith)
     (λ c. omega arith)
     (λ c. let l : tie.In-loop Inv-loop μ-loop = c .before .before in
-    (omega arith, rw (high-later, l .loop-test .taken, c .if1 .left) at (l .before .loop .inv .1)))
+    let h : getD (l .before .before .args .text .now) (l .before .loop .i) 0 ≤ 127 = omega arith in
+    (omega arith, rw (high-later, l .loop-test .taken, h) at (l .before .loop .inv .1)))
     (λ c. rw (high-none, c .loop-test .left) at (c .before .loop .inv .1)))

@@ -32,10 +32,10 @@ trimmed-end-spec =
     (λ c κs. search needs)
     (λ c. let l : tie.In-loop Inv-loop μ-loop = c .before .before .before in
     let e = sym (c .before .is-trimmed .ensures) ∙ not-true (c .before .is-trimmed .result) (c .if1 .taken) in
-    omega (arith, trailing-stop isTrimmed (l .before .before .before .args .text .now) (l .before .loop .i) (l .loop-test .taken) (l .before .loop .inv .0) e))
+    omega (arith, trailing-stop isTrimmed (l .before .before .before .args .text .now) (l .before .loop .i) (omega arith) (l .before .loop .inv .0) e))
     (λ c. omega arith)
     (λ c. omega arith)
     (λ c. let l : tie.In-loop Inv-loop μ-loop = c .before .before .before in
     let e = sym (c .before .is-trimmed .ensures) ∙ not-false (c .before .is-trimmed .result) (c .if1 .left) in
-    (omega arith, omega (arith, trailing-more isTrimmed (l .before .before .before .args .text .now) (l .before .loop .i) (l .loop-test .taken) (l .before .loop .inv .0) e)))
+    (omega arith, omega (arith, trailing-more isTrimmed (l .before .before .before .args .text .now) (l .before .loop .i) (omega arith) (l .before .loop .inv .0) e)))
     (λ c. omega arith))
