@@ -1,6 +1,6 @@
 -- What join alone, map-back and content copy give: the answer, and every lent slot as the call leaves it.
 use Prim.Native.Nat.{ℕ, suc}
-use mathlib.Core.Bool.{cond, _||_}
+use mathlib.Core.Bool.{Bool, cond, _||_}
 use mathlib.Core.List.{List}
 use lib.ListN.{length, getD}
 use lib.Dec.{ltb}
@@ -24,15 +24,15 @@ pub record JoinCall : Type 0 where
   pub text : List ℕ
   pub map : List ℕ
 
--- "Text needs as many bytes as the line, the map (16-bit) one slot more"
-abbrev pub joinShort : List ℕ → ℕ → ℕ → Answer ℕ → Answer ℕ
-joinShort line textSlots mapSlots a = cond (ltb textSlots (length line) || ltb mapSlots (suc (length line))) (refused 3 0) a
+-- row 3, "text, map or copy buffer short": "Text needs as many bytes as the line, the map (16-bit) one slot more"
+abbrev pub isShort : List ℕ → ℕ → ℕ → Bool
+isShort line textSlots mapSlots = ltb textSlots (length line) || ltb mapSlots (suc (length line))
 
 -- rows 1, 2, 3 and 6 in this order
 unfoldable pub joinAnswer : Language → Prefix → List ℕ → ℕ → ℕ → Answer ℕ
 unfolding fault joinedText firstHigh
 joinAnswer l p line textSlots mapSlots =
-    admitted line (joinShort line textSlots mapSlots (unlessFault 6 (fault l p line) (given (length (joinedText l line)))))
+    admitted line (cond (isShort line textSlots mapSlots) (refused 3 0) (unlessFault 6 (fault l p line) (given (length (joinedText l line)))))
 
 unfoldable pub joinCall : Language → Prefix → List ℕ → ℕ → ℕ → JoinCall
 unfolding joinAnswer joinedMap joinedText

@@ -1,0 +1,3 @@
+pub mod Clause
+pub mod Sequence
+pub mod Calls

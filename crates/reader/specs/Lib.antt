@@ -1,0 +1,3 @@
+pub mod Line
+pub mod Calls
+pub mod Laws

@@ -1,0 +1,18 @@
+// The whole line: from physical bytes to a directive's name and its clauses in order.
+use refusal::Refusal;
+
+// The reading of a line: the directive's entry and where its name stands, the number of clause records, and the place of the unread rest.
+// Places are offsets of the joined text.
+pub struct Reading {
+    pub entry: usize,
+    pub name_start: usize,
+    pub name_end: usize,
+    pub count: usize,
+    pub rest: usize,
+}
+
+// A reading, or a refusal.
+pub enum LineAnswer {
+    Read(Reading),
+    Refused(Refusal),
+}
