@@ -1,0 +1,5 @@
+pub mod Kept
+pub mod Phase2
+pub mod Checking
+pub mod Woven
+pub mod BreakLaw
