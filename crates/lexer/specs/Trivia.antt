@@ -1,12 +1,12 @@
 -- Trivia: white space, continuations and comments between words (`skip_language_trivia`).
-use Prim.Native.Nat.{ℕ, zero, suc, _+_}
+use Prim.Native.Nat.{ℕ, zero, suc, _+_, _≤_}
 use mathlib.Core.Bool.{Bool, true, false, cond, _&&_}
 use mathlib.Core.Option.{Option, some, none}
 use mathlib.Core.List.{List, [], _∷_}
-use lib.ListN.{drop}
+use lib.ListN.{drop, getD}
 use lib.Dec.{eqb, ltb}
 use Rattle.ascii.specs.Ascii.{isSpace}
-use Rattle.ascii.specs.Text.{starts, upTo}
+use Rattle.ascii.specs.Text.{upTo}
 use Rattle.delimiter.specs.Code.{blockEnd}
 use Rattle.lexer.specs.declared.Trivia.{Trivia}
 use Rattle.lexer.specs.declared.Trivia.the-variants.{Run, Open}
@@ -19,25 +19,24 @@ abbrev pub closed : Option ℕ → Trivia
 closed none = Open
 closed (some n) = Run (2 + n)
 
+abbrev pub isLineFeed : ℕ → Bool
+isLineFeed b = eqb b 10
+
 -- `skip_space_and_comments`: what trivia of C a text begins with. A `//` comment ends at LF only.
 unfoldable pub triviaC : List ℕ → Trivia
-unfolding breakC blockEnd upTo
-triviaC [] = Run 0
-triviaC (x ∷ xs) =
-    cond (ltb 0 (breakC (x ∷ xs))) (Run (breakC (x ∷ xs)))
-    (cond (isSpace x) (Run 1)
-    (cond (eqb x 47 && starts 42 xs) (closed (blockEnd (drop 1 xs)))
-    (cond (eqb x 47 && starts 47 xs) (Run (2 + upTo (eqb 10) (drop 1 xs)))
+triviaC xs =
+    cond (ltb 0 (breakC xs)) (Run (breakC xs))
+    (cond (isSpace (getD xs 0 0)) (Run 1)
+    (cond (eqb (getD xs 0 0) 47 && eqb (getD xs 1 0) 42) (closed (blockEnd (drop 2 xs)))
+    (cond (eqb (getD xs 0 0) 47 && eqb (getD xs 1 0) 47) (Run (2 + upTo isLineFeed (drop 2 xs)))
     (Run 0))))
 
 -- `skip_fortran_space_and_comments`: the same of Fortran. Every `!` begins a comment, `!$` too; it ends at LF only.
 unfoldable pub triviaF : List ℕ → Trivia
-unfolding breakF upTo
-triviaF [] = Run 0
-triviaF (x ∷ xs) =
-    cond (ltb 0 (breakF (x ∷ xs))) (Run (breakF (x ∷ xs)))
-    (cond (isSpace x) (Run 1)
-    (cond (eqb x 33) (Run (1 + upTo (eqb 10) xs))
+triviaF xs =
+    cond (ltb 0 (breakF xs)) (Run (breakF xs))
+    (cond (isSpace (getD xs 0 0)) (Run 1)
+    (cond (eqb (getD xs 0 0) 33) (Run (1 + upTo isLineFeed (drop 1 xs)))
     (Run 0)))
 
 -- "bit 0 ignore case and use Fortran trivia"
@@ -47,7 +46,6 @@ triviaOf true xs = triviaF xs
 
 -- the place after all trivia of a text that stands at place at, once k bytes are passed over
 unfoldable pub skipFrom : Bool → ℕ → ℕ → List ℕ → Skipped
-unfolding triviaC triviaF
 skipFrom f zero at [] = Past at
 skipFrom f (suc k) at [] = Past at
 skipFrom f (suc k) at (x ∷ xs) = skipFrom f k (suc at) xs
@@ -56,5 +54,14 @@ skipFrom f zero at (x ∷ xs) =
 
 -- trivia from a place of a text; row 8, "comment unclosed in trivia", at the comment
 unfoldable pub skip : Bool → List ℕ → ℕ → Skipped
-unfolding skipFrom
 skip f text at = skipFrom f zero at (drop at text)
+
+-- the place of either answer is not before at, and not past n bytes
+abbrev pub Inside : ℕ → ℕ → Skipped → Type 0
+Inside at n (Past p) = (at ≤ p) × (p ≤ n)
+Inside at n (OpenAt p) = (at ≤ p) × (p ≤ n)
+
+-- trivia of a text of n bytes does not reach past its end
+abbrev pub Fits : ℕ → Trivia → Type 0
+Fits n (Run k) = k ≤ n
+Fits n Open = Unit {0}

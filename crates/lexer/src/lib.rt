@@ -1,4 +1,5 @@
 // Continuations, sentinels and trivia of a directive line.
+pub mod continuation;
 
 // The language of a line, with the source form of Fortran.
 pub enum Language {

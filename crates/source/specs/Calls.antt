@@ -30,12 +30,10 @@ isShort line textSlots mapSlots = ltb textSlots (length line) || ltb mapSlots (s
 
 -- rows 1, 2, 3 and 6 in this order
 unfoldable pub joinAnswer : Language → Prefix → List ℕ → ℕ → ℕ → Answer ℕ
-unfolding fault joinedText firstHigh
 joinAnswer l p line textSlots mapSlots =
     admitted line (cond (isShort line textSlots mapSlots) (refused 3 0) (unlessFault 6 (fault l p line) (given (length (joinedText l line)))))
 
 unfoldable pub joinCall : Language → Prefix → List ℕ → ℕ → ℕ → JoinCall
-unfolding joinAnswer joinedMap joinedText
 joinCall l p line textSlots mapSlots =
     let answer = joinAnswer l p line textSlots mapSlots in
     record { answer = answer; text = slots 0 textSlots (λ _. joinedText l line) answer; map = slots 0 mapSlots (λ _. joinedMap l line) answer }
@@ -63,7 +61,6 @@ pub record CopyCall : Type 0 where
   pub copy : List ℕ
 
 unfoldable pub copyCall : List ℕ → ℕ → CopyCall
-unfolding collapsed firstHigh
 copyCall content size =
     let answer = admitted content (cond (ltb size (length content)) (refused 3 0) (given (length (collapsed content)))) in
     record { answer = answer; copy = slots 0 size (λ _. collapsed content) answer }

@@ -22,9 +22,9 @@ keptFrom cut zero at (x ∷ xs) =
 
 -- "C: `\` directly followed by LF or CRLF goes"; "Fortran: `skip_fortran_continuation`"
 abbrev pub cutOf : Language → List ℕ → ℕ
-cutOf C xs = breakC xs
-cutOf FortranFree xs = breakF xs
-cutOf FortranFixed xs = breakF xs
+cutOf C = breakC
+cutOf FortranFree = breakF
+cutOf FortranFixed = breakF
 
 abbrev pub byteOf : Kept → ℕ
 byteOf k = k .byte
@@ -34,15 +34,12 @@ placeOf k = k .place
 
 -- `LogicalSource::new`, the text
 unfoldable pub joinedText : Language → List ℕ → List ℕ
-unfolding keptFrom breakC breakF
 joinedText l line = map byteOf (keptFrom (cutOf l) zero zero line)
 
 -- "The map gives each kept byte its physical offset; its last entry is the line's length"
 unfoldable pub joinedMap : Language → List ℕ → List ℕ
-unfolding keptFrom breakC breakF
 joinedMap l line = map placeOf (keptFrom (cutOf l) zero zero line) ++ (length line ∷ [])
 
 -- "Content copy gives `collapse_line_continuations` of it": both languages' continuations go. No text begins with both.
 unfoldable pub collapsed : List ℕ → List ℕ
-unfolding keptFrom breakC breakF
 collapsed xs = map byteOf (keptFrom (λ s. breakC s + breakF s) zero zero xs)

@@ -42,7 +42,6 @@ contentF p line = drop (sentinelEnded p (unindented line)) (unindented line)
 
 -- `fortran_line_has_trailing_continuation`: its code ends in `&`
 unfoldable pub continuedF : Prefix → List ℕ → Bool
-unfolding codeOutside leading sentinelEnded
 continuedF p line = endsIn 38 (take (codeOutside (contentF p line)) (contentF p line))
 
 -- the physical line is continued; in C, its last byte is a backslash. "Fixed form uses the free-form `&`"
@@ -85,14 +84,12 @@ module _ (l : Language) (p : Prefix) where
 
   -- the physical line at place at, with all that follows it
   unfoldable pub checkLine : Bool → ℕ → List ℕ → Checked
-  unfolding leading sentinelAny sentinelEnded continuedF
   checkLine later at xs =
       cond (later && foreign l p (take (lineLength xs) xs)) (WrongAt (at + leading isBlank xs))
       (checkEnd at (take (lineLength xs) xs) (drop (lineLength xs) xs))
 
   -- physical line by physical line, once k bytes are passed over
   unfoldable pub faultFrom : ℕ → ℕ → List ℕ → Option ℕ
-  unfolding checkLine
   faultFrom zero at [] = none
   faultFrom (suc k) at [] = none
   faultFrom (suc k) at (x ∷ xs) = faultFrom k (suc at) xs
@@ -101,5 +98,4 @@ module _ (l : Language) (p : Prefix) where
 
   -- row 6, "validation fails, physical place": where a line first breaks the rule of its language
   unfoldable pub fault : List ℕ → Option ℕ
-  unfolding faultFrom
   fault line = faultFrom zero zero line

@@ -1,0 +1,31 @@
+-- Laws of texts at a place, in the terms of the code that reads there.
+-- Assumes nothing.
+use mathlib.Core.Path.{_≡_, refl, sym}
+use mathlib.Core.Bool.{true, false, true≢false}
+use mathlib.Core.List.{List, [], _∷_}
+use Prim.Native.Nat.{ℕ, zero, suc, _<_, _≤_, suc-le-suc}
+use native.Mathlib.Omega.{arith}
+use lib.ListN.{length, getD}
+use lib.Dec.{eqb}
+use Rattle.ascii.specs.Text.{begins}
+use Rattle.ascii.proofs.Flags.{and-right}
+use Rattle.lexer.specs.declared.Prefix.{Prefix}
+use Rattle.lexer.specs.declared.Prefix.the-variants.{Omp, Acc}
+use Rattle.lexer.specs.Continuation.{prefixBytes}
+
+-- what is not 0 stands inside the text
+pub inside : (s : List ℕ) (k b : ℕ) → 0 < b → getD s k 0 ≡ b → k < length s
+inside [] k b h e = omega arith
+inside (x ∷ s) zero b h e = omega arith
+inside (x ∷ s) (suc k) b h e = suc-le-suc (inside s k b h e)
+
+-- a text that begins with a word has room for it
+pub begins-fits : (f : ℕ → ℕ) (w xs : List ℕ) → begins f w xs ≡ true → length w ≤ length xs
+unfolding begins
+begins-fits f [] xs e = omega arith
+begins-fits f (p ∷ w) [] e = absurd (true≢false (sym e))
+begins-fits f (p ∷ w) (x ∷ xs) e = suc-le-suc (begins-fits f w xs (and-right (eqb (f p) (f x)) (begins f w xs) e))
+
+pub prefix-length : (p : Prefix) → length (prefixBytes p) ≡ 3
+prefix-length Omp = refl
+prefix-length Acc = refl
