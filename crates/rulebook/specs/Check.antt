@@ -2,13 +2,15 @@
 use Prim.Native.Nat.{ℕ}
 use mathlib.Core.Bool.{Bool, false, cond, _||_}
 use mathlib.Core.Option.{Option, some, none}
-use mathlib.Core.List.{List, [], _∷_}
+use mathlib.Core.List.{List, [], _∷_, _++_}
+use mathlib.Core.Path.{_≡_}
 use Rattle.ascii.specs.Ascii.{fold}
 use Rattle.ascii.specs.Text.{sameBy}
 use Rattle.refusal.specs.Answer.{Answer, given, refusedBy, unlessFault}
 use Rattle.rulebook.specs.declared.BookAnswer.{BookAnswer}
 use Rattle.rulebook.specs.declared.BookAnswer.the-variants.{Valid, Refused}
-use Rattle.rulebook.specs.Format.{header, badFrom}
+use Rattle.rulebook.specs.declared.Expect.the-variants.{HeaderByte}
+use Rattle.rulebook.specs.Format.{badFrom}
 use Rattle.rulebook.specs.Book.{Entry, bookOf}
 
 -- an entry has the name, by a comparison
@@ -21,17 +23,21 @@ isNamed f name (e ∷ es) = sameBy f (e .name) name || isNamed f name es
 unfoldable pub repeatFrom : List Entry → List Entry → Option ℕ
 unfolding isNamed
 repeatFrom earlier [] = none
-repeatFrom earlier (e ∷ es) = cond (isNamed fold (e .name) earlier) (some (e .at)) (repeatFrom (e ∷ earlier) es)
+repeatFrom earlier (e ∷ es) = cond (isNamed fold (e .name) earlier) (some (e .at)) (repeatFrom (earlier ++ (e ∷ [])) es)
 
 abbrev pub orElse : Option ℕ → Option ℕ → Option ℕ
 orElse none b = b
 orElse (some p) b = some p
 
+-- "repeats aside": no byte of it is bad, and it is not cut
+abbrev pub HasForm : List ℕ → Type 0
+HasForm bs = badFrom (HeaderByte 0) 0 bs ≡ none
+
 -- row 4: "first bad byte, its end if cut; with no such fault, the first byte of the first entry that repeats an earlier name".
 -- "No two directive names, and no two clause names, are equal": the two kinds apart. "A book is valid if row 4 of the table finds nothing in it."
 unfoldable pub bookFault : List ℕ → Option ℕ
 unfolding badFrom bookOf repeatFrom
-bookFault bs = orElse (badFrom (header 0) 0 bs) (orElse (repeatFrom [] (bookOf bs .directives)) (repeatFrom [] (bookOf bs .clauses)))
+bookFault bs = orElse (badFrom (HeaderByte 0) 0 bs) (orElse (repeatFrom [] (bookOf bs .directives)) (repeatFrom [] (bookOf bs .clauses)))
 
 -- the call: valid, or refusal 4 at the fault
 unfoldable pub bookCall : List ℕ → Answer (Unit {0})

@@ -1,4 +1,6 @@
 // The book: a file of directive names, clause names and rules.
+mod format;
+
 use refusal::Refusal;
 
 // What a clause may look like.
@@ -11,6 +13,66 @@ pub enum ClauseRule {
     Flexible,
     // refused
     Unsupported,
+}
+
+// What a rule byte says.
+pub enum RuleByte {
+    Known(ClauseRule),
+    Unknown,
+}
+
+// What a reader of a book waits for. Counts of entries are of those that come after the one being read.
+pub enum Expect {
+    // a byte of the header, 0 to 7
+    HeaderByte(usize),
+    // byte 8, after so many directives were announced
+    ClauseCount(usize),
+    // the length byte of a directive entry; directives and clauses to come after it
+    DirectiveLength(usize, usize),
+    // a byte of a directive's name; bytes of the name after it, whether the byte before was of a word, directives and clauses after it
+    DirectiveName(usize, bool, usize, usize),
+    // the rule byte of a clause entry; clauses after it
+    Rule(usize),
+    ClauseLength(usize),
+    // a byte of a clause's name; bytes of the name after it, clauses after it
+    ClauseName(usize, usize),
+    // nothing: the book is whole
+    End,
+}
+
+// What a byte leads to.
+pub enum Step {
+    Next(Expect),
+    Bad,
+}
+
+// Where entries of one kind stand: as many bytes as lead come before an entry's length byte (none in a directive entry, the rule byte
+// in a clause entry), the place of the first entry, and how many there are.
+pub struct Entries {
+    pub lead: usize,
+    pub first: usize,
+    pub count: usize,
+}
+
+// What a book's header says.
+pub struct Header {
+    pub ignores_case: bool,
+    pub optional_blanks: bool,
+    pub default_rule: ClauseRule,
+    pub directives: Entries,
+    pub clauses: Entries,
+}
+
+// An entry that was looked up: its index and the place of its first byte.
+pub enum EntryFound {
+    At(usize, usize),
+    Nothing,
+}
+
+// What a book says of a clause's name: the index of its entry, 65,535 if it has none, and its rule.
+pub struct ClauseEntry {
+    pub index: u16,
+    pub rule: ClauseRule,
 }
 
 // The book is valid, or refusal 4 with its place.
