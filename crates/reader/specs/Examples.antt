@@ -14,13 +14,13 @@ use Rattle.delimiter.specs.Split.{nextSolid, splitFrom, split, flat, SplitCall,
 use Rattle.lexer.specs.declared.Language.{Language}
 use Rattle.lexer.specs.declared.Language.the-variants.{C, FortranFree}
 use Rattle.lexer.specs.declared.Prefix.the-variants.{Omp}
-use Rattle.lexer.specs.Continuation.{breakC, breakF, sentinel, sentinelEnded, sentinelAny}
+use Rattle.lexer.specs.Continuation.{breakC, breakF, sentinel, sentinelEnded, sentinelAny, eol, commentF, marker, lead}
 use Rattle.lexer.specs.Trivia.{triviaC, triviaF, skipFrom, skip}
 use Rattle.source.specs.Validation.{codeOutside, continuedF, checkLine, faultFrom, fault}
 use Rattle.source.specs.Joining.{keptFrom, joinedText, joinedMap}
 use Rattle.source.specs.Calls.{JoinCall, joinAnswer, joinCall, spanAnswer}
 use Rattle.rulebook.specs.Format.{badFrom}
-use Rattle.rulebook.specs.Book.{directiveEntries, clauseEntries, directiveBytes, clausesAt, bookOf}
+use Rattle.rulebook.specs.Book.{entriesFrom, placeAfter, clausesOf, headerOf, bookOf}
 use Rattle.rulebook.specs.Check.{isNamed, repeatFrom, bookFault, bookCall}
 use Rattle.rulebook.specs.Lookup.{entryFrom, ruleAt}
 use Rattle.clause.specs.declared.SequenceEnd.{SequenceEnd}
@@ -69,7 +69,7 @@ pub marked :
     × (commas [] ≡ noItems 15 0)
     × (colons (bytes "a:'x':b") ≡ items 1 ((0 ∷ 7 ∷ []) ++ replicate 6 0))
     × (colons (bytes "p?q::r:s") ≡ items 2 ((0 ∷ 6 ∷ 7 ∷ 8 ∷ []) ++ replicate 4 0))
-unfolding leading upTo trimmed begins firstHigh literal blockEnd piece scanFrom nextSolid splitFrom split flat splitCall breakC breakF sentinel sentinelEnded sentinelAny codeOutside continuedF checkLine faultFrom fault keptFrom joinedText joinedMap joinAnswer joinCall
+unfolding leading upTo trimmed begins firstHigh literal blockEnd piece scanFrom nextSolid splitFrom split flat splitCall breakC breakF sentinel sentinelEnded sentinelAny eol commentF marker lead codeOutside continuedF checkLine faultFrom fault keptFrom joinedText joinedMap joinAnswer joinCall
 marked = (refl, refl, refl, refl, refl, refl, refl, refl, refl, refl, refl, refl)
 
 -- "Strict" is a book with flags 0, `parallel`, and `nowait` Bare, default 3.
@@ -128,5 +128,5 @@ pub table :
           ∷ zeroRecord
           ∷ [];
     })
-unfolding leading upTo trimmed sameBy begins firstHigh literal blockEnd piece scanFrom matchFrom matching nextSolid splitFrom split flat splitCall breakC breakF sentinel sentinelEnded sentinelAny triviaC triviaF skipFrom skip codeOutside continuedF checkLine faultFrom fault keptFrom joinedText joinedMap joinAnswer joinCall spanAnswer badFrom directiveEntries clauseEntries directiveBytes clausesAt bookOf isNamed repeatFrom bookFault bookCall entryFrom ruleAt clauseAt sequenceFrom sequenceAt sequenceCall compact entriesWith entryOf headFrom isHead mayGrow nameFrom nameAt openingC openingF parsed lineAnswer lineCall
+unfolding leading upTo trimmed sameBy begins firstHigh literal blockEnd piece scanFrom matchFrom matching nextSolid splitFrom split flat splitCall breakC breakF sentinel sentinelEnded sentinelAny eol commentF marker lead triviaC triviaF skipFrom skip codeOutside continuedF checkLine faultFrom fault keptFrom joinedText joinedMap joinAnswer joinCall spanAnswer badFrom entriesFrom placeAfter clausesOf headerOf bookOf isNamed repeatFrom bookFault bookCall entryFrom ruleAt clauseAt sequenceFrom sequenceAt sequenceCall compact entriesWith entryOf headFrom isHead mayGrow nameFrom nameAt openingC openingF parsed lineAnswer lineCall
 table = (refl, refl, refl, refl, refl, refl, refl, refl, refl, refl, refl, refl, refl, refl, refl, refl, refl, refl, refl, refl, refl, refl, refl, refl, refl)
