@@ -1,0 +1,297 @@
+//! Whole lines: opening words, name and clauses, physical line ends, buffers, and the pairs of demand 3.
+
+use super::sequence::clauses;
+use super::source::random_breaks;
+use super::{enough, near};
+use crate::books::Book;
+use crate::cases::{Sink, hexadecimal};
+use crate::laws::{Law, broken};
+use crate::random::Random;
+use crate::texts::{Tokens, damaged, mixed_case, short_texts};
+
+const C_OPENINGS: &Tokens = &[
+    b"#pragma", b"omp", b"acc", b" ", b"/*", b"*/", b"//", b"p", b"a", b"\\\n", b"\n", b"\x0b", b"\t",
+];
+
+const C_TOKENS: &Tokens = &[
+    b"p", b"a", b"i", b"f", b"u", b"z", b" ", b",", b"(", b")", b"/*", b"*/", b"//", b"'", b"\\\n", b"\\", b"\n", b"\x0b", b"\r",
+];
+
+const FORTRAN_OPENINGS: &Tokens = &[
+    b"!$omp", b"!$OMP", b"c$omp", b"!$acc", b"!$", b"*$", b" ", b"/*", b"*/", b"!", b"p", b"a", b"&\n", b"&", b"\n",
+];
+
+const FORTRAN_TOKENS: &Tokens = &[
+    b"p", b"P", b"a", b"i", b"f", b"u", b" ", b",", b"(", b")", b"!", b"'", b"&\n", b"&", b"!$omp", b"!$acc", b"\n", b"\x0b",
+    b"/*", b"c$omp",
+];
+
+/// Between words, without line ends of their own.
+const C_GAPS: [&str; 8] = ["", "", " ", " ", "\t", "/* c */", "  ", "/**/"];
+const FORTRAN_GAPS: [&str; 9] = ["", "", " ", " ", "\t", "  ", "&\n", " &\n!$omp& ", "&\r\n  "];
+
+/// Sizes of the lent text, map and records.
+#[derive(Clone, Copy)]
+struct Sizes {
+    text: usize,
+    map: usize,
+    records: usize,
+}
+
+impl Sizes {
+    fn for_line(length: usize, records: usize) -> Self {
+        Self {
+            text: length,
+            map: length + 1,
+            records,
+        }
+    }
+
+    fn around(length: usize, random: &mut Random) -> Self {
+        let records = random.pick(&[0, 1, 2, 3, 6, 6, 512]);
+        match random.percent(15) {
+            true => Self {
+                text: near(length, random),
+                map: near(length + 1, random),
+                records,
+            },
+            false => Self {
+                text: enough(length, random),
+                map: enough(length + 1, random),
+                records,
+            },
+        }
+    }
+}
+
+fn ask(language: &str, prefix: &str, sizes: Sizes, book: &[u8], line: &[u8]) -> String {
+    format!(
+        "line {language} {prefix} {} {} {} {} {}",
+        sizes.text,
+        sizes.map,
+        sizes.records,
+        hexadecimal(book),
+        hexadecimal(line)
+    )
+}
+
+pub fn boundaries(sink: &mut Sink) {
+    for default in 0..4 {
+        for (language, opening, ending) in [
+            ("c", "#pragma omp p ", "\\\n"),
+            ("free", "!$omp p ", "&\n"),
+            ("fixed", "c$omp p ", "&\n"),
+        ] {
+            let book = Book::small(u8::from(language != "c"), default).bytes();
+            full_lines(language, opening, ending, &book, sink);
+            deep_lines(language, opening, &book, sink);
+        }
+    }
+    wrong_books(sink);
+}
+
+fn full_lines(language: &str, opening: &str, ending: &str, book: &[u8], sink: &mut Sink) {
+    for length in [16_383, 16_384, 16_385] {
+        let room = length - opening.len();
+        let content = format!("{opening}i({})", "x".repeat(room - 3));
+        let blanks = format!("{opening}{}", " ".repeat(room));
+        let ends = ending.repeat(room / 2 - 1);
+        let broken = format!("{opening}{ends}{}", "a".repeat(room - ends.len()));
+        for line in [&content, &blanks, &broken] {
+            sink.give(ask(language, "omp", Sizes::for_line(length, 3), book, line.as_bytes()));
+        }
+    }
+    let clauses = format!("{opening}{}", "a,".repeat(513));
+    for records in [511, 512] {
+        let sizes = Sizes::for_line(clauses.len(), records);
+        sink.give(ask(language, "omp", sizes, book, clauses.as_bytes()));
+        sink.give(ask(language, "omp", sizes, book, &clauses.as_bytes()[..opening.len() + 2 * records]));
+    }
+}
+
+fn deep_lines(language: &str, opening: &str, book: &[u8], sink: &mut Sink) {
+    for depth in 254..=258 {
+        let (open, close) = ("(".repeat(depth), ")".repeat(depth));
+        for line in [
+            format!("{opening}i{open}{close}"),
+            format!("{opening}i{open}"),
+            format!("{opening}a f{open}x{close},a"),
+            format!("{opening}z[{open}{close}"),
+        ] {
+            for records in [0, 3] {
+                let sizes = Sizes::for_line(line.len(), records);
+                sink.give(ask(language, "omp", sizes, book, line.as_bytes()));
+            }
+        }
+    }
+}
+
+/// Rows 1 to 6 against each other: a long, high or uncontinued line, short buffers, a wrong book, the wrong language.
+fn wrong_books(sink: &mut Sink) {
+    let good = b"#pragma omp p a".to_vec();
+    let long = vec![b'a'; 16_385];
+    let lines = [good.clone(), vec![200; 3], b"x\ny".to_vec(), b"x\r".to_vec(), Vec::new(), long];
+    let right = Book::small(0, 3).bytes();
+    let cut = right[..right.len() - 1].to_vec();
+    let foreign = Book::small(1, 3).bytes();
+    let both = foreign[..foreign.len() - 1].to_vec();
+    for line in &lines {
+        for book in [&right, &cut, &foreign, &both] {
+            for language in ["c", "free", "fixed"] {
+                for (text, map) in [(0, 1), (1, 0), (0, 2), (1, 1)] {
+                    let sizes = Sizes {
+                        text: (line.len() + text).saturating_sub(1),
+                        map: line.len() + map,
+                        records: 2,
+                    };
+                    sink.give(ask(language, "omp", sizes, book, line));
+                }
+            }
+        }
+    }
+}
+
+pub fn short(limit: usize, sink: &mut Sink, random: &mut Random) {
+    let quarter = limit / 4;
+    for default in [0, 3] {
+        let c = Book::small(0, default).bytes();
+        let fortran = Book::small(1, default).bytes();
+        short_texts(C_OPENINGS, quarter / 4, random, |random, text| {
+            let prefix = random.pick(&["omp", "omp", "acc"]);
+            sink.give(ask("c", prefix, Sizes::for_line(text.len(), 2), &c, text));
+        });
+        short_texts(FORTRAN_OPENINGS, quarter / 4, random, |random, text| {
+            let language = random.pick(&["free", "fixed"]);
+            let prefix = random.pick(&["omp", "omp", "acc"]);
+            sink.give(ask(language, prefix, Sizes::for_line(text.len(), 2), &fortran, text));
+        });
+    }
+    for default in 0..4 {
+        let c = Book::small(0, default).bytes();
+        let fortran = Book::small(1, default).bytes();
+        short_texts(C_TOKENS, quarter * 3 / 8, random, |random, text| {
+            let line = [b"#pragma omp p", text].concat();
+            let sizes = Sizes::for_line(line.len(), random.below(4));
+            sink.give(ask("c", "omp", sizes, &c, &line));
+        });
+        short_texts(FORTRAN_TOKENS, quarter * 3 / 8, random, |random, text| {
+            let line = [b"!$omp p", text].concat();
+            let sizes = Sizes::for_line(line.len(), random.below(4));
+            sink.give(ask(random.pick(&["free", "fixed"]), "omp", sizes, &fortran, &line));
+        });
+    }
+}
+
+pub fn random(sink: &mut Sink, random: &mut Random) {
+    let language = random.pick(&["c", "c", "free", "fixed"]);
+    let flags = u8::from(language != "c") + 2 * u8::from(random.percent(30));
+    let flags = if random.percent(1) { flags ^ 1 } else { flags };
+    let default = random.pick(&[0, 1, 2, 3, 3]);
+    let book = match random.below(4) {
+        0 => Book::small(flags, default),
+        1 => Book::tangled(flags, default, random),
+        _ => Book::real(flags, default),
+    };
+    // Several lines for a book, as making one ready costs more than reading a line.
+    for _ in 0..8 {
+        one_line(language, &book, sink, random);
+    }
+}
+
+fn one_line(language: &str, book: &Book, sink: &mut Sink, random: &mut Random) {
+    let prefix = random.pick(&["omp", "omp", "acc"]);
+    let is_c = language == "c";
+    let mut line = match is_c {
+        true => c_line(prefix, book, random),
+        false => fortran_line(language, prefix, book, random),
+    };
+    if random.percent(25) {
+        line = damaged(&line, if is_c { C_TOKENS } else { FORTRAN_TOKENS }, random);
+    }
+    if random.percent(1) {
+        line.push(200);
+    }
+    let bytes = book.bytes();
+    let is_plain = line.iter().all(|byte| *byte < 128 && !b"\r\n".contains(byte));
+    if is_c && is_plain && random.percent(50) {
+        broken_pair(prefix, &bytes, &line, sink, random);
+        return;
+    }
+    let sizes = Sizes::around(line.len(), random);
+    let request = ask(language, prefix, sizes, &bytes, &line);
+    if book.default == 3 && random.percent(40) {
+        let more = book.with_more(random).bytes();
+        sink.give_pair(request, ask(language, prefix, sizes, &more, &line), Law::Appended);
+        return;
+    }
+    sink.give(request);
+}
+
+fn broken_pair(prefix: &str, book: &[u8], text: &[u8], sink: &mut Sink, random: &mut Random) {
+    let breaks = random_breaks(text.len(), random);
+    let need = text.len() + breaks.iter().map(Vec::len).sum::<usize>();
+    let sizes = Sizes {
+        text: enough(need, random),
+        map: enough(need + 1, random),
+        records: random.pick(&[0, 1, 2, 6, 512]),
+    };
+    let (line, map) = broken(text, &breaks, sizes.map);
+    sink.give_pair(
+        ask("c", prefix, sizes, book, text),
+        ask("c", prefix, sizes, book, &line),
+        Law::Breaks { map },
+    );
+}
+
+fn c_line(prefix: &str, book: &Book, random: &mut Random) -> Vec<u8> {
+    let mut line = String::from(random.pick(&["", "", "", " ", "/* c */", "\t"]));
+    line += if random.percent(98) { "#pragma" } else { "#pragm" };
+    line += required(&C_GAPS, random);
+    line += if random.percent(97) { prefix } else { "omp" };
+    line += required(&C_GAPS, random);
+    line += &name(book, &C_GAPS, random);
+    line += &clauses(book, &C_GAPS, random);
+    line += random.pick(&["", "", "", "", "\n", "\\\n", " ", "\x0b", "\n \t"]);
+    line.into_bytes()
+}
+
+fn fortran_line(language: &str, prefix: &str, book: &Book, random: &mut Random) -> Vec<u8> {
+    let start = match (language, random.below(12)) {
+        ("fixed", 0) => format!("c${prefix}"),
+        ("fixed", 1) => format!("*${prefix}"),
+        (_, 2) => "!$".to_string(),
+        (_, 3) => format!(" !${prefix}"),
+        (_, 4) => format!("c${prefix}"),
+        _ => format!("!${prefix}"),
+    };
+    let mut line = mixed_case(&start, random);
+    line += required(&FORTRAN_GAPS, random);
+    line += &name(book, &FORTRAN_GAPS, random);
+    line += &clauses(book, &FORTRAN_GAPS, random);
+    line += random.pick(&["", "", "", "", "\n", "&\n", "&", " ! e", "\x0b"]);
+    line.into_bytes()
+}
+
+/// A gap that is there, but for a few cases.
+fn required<'a>(gaps: &[&'a str], random: &mut Random) -> &'a str {
+    let gap = random.pick(gaps);
+    if gap.is_empty() && random.percent(97) { " " } else { gap }
+}
+
+/// A directive of the book, its words apart or together, or something else.
+fn name(book: &Book, gaps: &[&str], random: &mut Random) -> String {
+    if random.percent(4) {
+        return random.pick(&["zzz", "", "(", "_", "target zzz"]).to_string();
+    }
+    let words: Vec<String> = random.pick(&book.directives).split(' ').map(str::to_string).collect();
+    let gap = match (book.flags & 2 == 2 && random.percent(50), random.percent(70)) {
+        (true, _) => "",
+        (false, true) => " ",
+        (false, false) => required(gaps, random),
+    };
+    let name = words.join(gap);
+    match random.percent(if book.flags == 0 { 3 } else { 40 }) {
+        true => mixed_case(&name, random),
+        false => name,
+    }
+}

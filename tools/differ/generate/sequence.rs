@@ -1,0 +1,147 @@
+//! Clause sequences under several books.
+
+use crate::books::Book;
+use crate::cases::{Sink, hexadecimal};
+use crate::laws::Law;
+use crate::random::Random;
+use crate::texts::{Tokens, damaged, list, mixed_case, random_text, short_texts};
+
+pub const TOKENS: &Tokens = &[
+    b"a", b"i", b"f", b"u", b"z", b"A", b" ", b",", b"(", b")", b"[", b"]", b"/*", b"*/", b"//", b"\n", b"'", b"\\\n", b"&\n",
+    b"!", b"\x0b", b"\r", b"\"", b"\\", b"!$", b"{", b"}",
+];
+
+/// What may stand between words, line ends included.
+const GAPS: [&str; 12] = ["", "", " ", " ", "\t", "/* c */", "// c\n", "\\\n", "! c\n", "&\n", "\x0b", "\n"];
+
+fn ask(slots: usize, book: &[u8], text: &[u8]) -> String {
+    format!("seq {slots} {} {}", hexadecimal(book), hexadecimal(text))
+}
+
+fn small_books() -> Vec<Vec<u8>> {
+    let kinds = (0..2).flat_map(|flags| (0..4).map(move |default| (flags, default)));
+    kinds.map(|(flags, default)| Book::small(flags, default).bytes()).collect()
+}
+
+pub fn boundaries(sink: &mut Sink) {
+    for book in small_books() {
+        for count in 254..=258 {
+            for (open, close) in [("(", ")"), ("[", "]"), ("{", "}"), ("([{", "}])")] {
+                let count = count / close.len();
+                let (open, close) = (open.repeat(count), close.repeat(count));
+                for (slots, text) in [
+                    (1, format!("i({open}{close})")),
+                    (0, format!("i({open}{close})")),
+                    (1, format!("f {open}")),
+                    (1, format!("i({open}{close}) '")),
+                    (1, format!("i({open}]{close})")),
+                    (2, format!("i(x) i({open}{close})")),
+                    (2, format!("a i(]{open}{close})")),
+                    (2, format!("u({open}{close})")),
+                    (2, format!("i() a {open}")),
+                    (3, format!("a,z({open}{close})")),
+                ] {
+                    sink.give(ask(slots, &book, text.as_bytes()));
+                }
+            }
+        }
+        for length in [16_383, 16_384, 16_385] {
+            sink.give(ask(2, &book, &vec![b'a'; length]));
+            sink.give(ask(2, &book, &vec![b' '; length]));
+            let content = "x".repeat(length - 3);
+            sink.give(ask(1, &book, format!("i({content})").as_bytes()));
+            sink.give(ask(1, &book, format!("i({content}]").as_bytes()));
+        }
+        for clauses in [511, 512, 513] {
+            let text = vec!["a"; clauses].join(",");
+            for slots in [clauses - 1, clauses, 512] {
+                sink.give(ask(slots, &book, text.as_bytes()));
+            }
+            sink.give(ask(512, &book, "i(x)".repeat(clauses).as_bytes()));
+        }
+        sink.give(ask(2, &book[..book.len() - 1], b"a"));
+        sink.give(ask(2, &book[..book.len() - 1], b"a\xff"));
+    }
+}
+
+pub fn short(limit: usize, sink: &mut Sink, random: &mut Random) {
+    let books = small_books();
+    for book in &books {
+        short_texts(TOKENS, limit / books.len(), random, |random, text| {
+            sink.give(ask(random.pick(&[0, 1, 2, 3, 4]), book, text));
+        });
+    }
+}
+
+pub fn random(sink: &mut Sink, random: &mut Random) {
+    let (flags, default) = (random.below(4) as u8, random.below(4) as u8);
+    let book = match random.below(4) {
+        0 => Book::real(flags, default),
+        1 => Book::tangled(flags, default, random),
+        _ => Book::small(flags, default),
+    };
+    let bytes = book.bytes();
+    // Several texts for a book, as making one ready costs more than reading a text.
+    for _ in 0..8 {
+        let mut text = match random.below(4) {
+            0 => random_text(TOKENS, 25, random),
+            _ => clauses(&book, &GAPS, random).into_bytes(),
+        };
+        if random.percent(35) {
+            text = damaged(&text, TOKENS, random);
+        }
+        if random.percent(1) {
+            text.push(200);
+        }
+        let slots = random.pick(&[0, 1, 2, 3, 4, 8, 512]);
+        sink.give(ask(slots, &bytes, &text));
+    }
+    if default == 3 {
+        let text = clauses(&book, &GAPS, random).into_bytes();
+        let more = book.with_more(random).bytes();
+        sink.give_pair(ask(9, &bytes, &text), ask(9, &more, &text), Law::Appended);
+    }
+}
+
+/// A run of clauses as the book has them, and some that it doesn't have.
+pub fn clauses(book: &Book, gaps: &[&str], random: &mut Random) -> String {
+    let mut text = String::new();
+    for _ in 0..random.between(0, 5) {
+        text += random.pick(gaps);
+        text += random.pick(&[" ", " ", ",", ", ", ""]);
+        text += random.pick(gaps);
+        text += &clause(book, gaps, random);
+    }
+    text += random.pick(&["", "", "", " ", ",", ", ", " /* e */", " // e", " ! e"]);
+    text
+}
+
+fn clause(book: &Book, gaps: &[&str], random: &mut Random) -> String {
+    let (rule, name) = match random.percent(93) && !book.clauses.is_empty() {
+        true => random.pick(&book.clauses),
+        false => (random.below(4) as u8, random.pick(&["z", "q9", "_x"]).to_string()),
+    };
+    let name = match random.percent(if book.is_fortran() { 50 } else { 5 }) {
+        true => mixed_case(&name, random),
+        false => name,
+    };
+    let has_content = match rule {
+        0 => random.percent(3),
+        1 => random.percent(97),
+        _ => random.percent(50),
+    };
+    if !has_content {
+        return name;
+    }
+    format!("{name}{}({})", random.pick(gaps), content(gaps, random))
+}
+
+fn content(gaps: &[&str], random: &mut Random) -> String {
+    let (before, after) = (random.pick(gaps), random.pick(gaps));
+    let depth = random.between(0, 3);
+    match random.below(5) {
+        0 => format!("{before}{after}"),
+        1 => "x".to_string(),
+        _ => format!("{before}{}{after}", list(",", depth, random)),
+    }
+}

@@ -1,0 +1,154 @@
+//! Generates requests, puts them to the oracle and to the probe, and compares the answers. `tools/differential` runs it.
+
+mod books;
+mod cases;
+mod generate;
+mod laws;
+mod random;
+mod report;
+mod run;
+mod texts;
+
+use cases::Call;
+use report::Comparison;
+use run::Program;
+use std::path::{Path, PathBuf};
+use std::process::ExitCode;
+
+const USAGE: &str = "usage: tools/differential [--call CALL,..] [--count N] [--seed S] [--small] [--show N]
+                          [--probe PATH] [--oracle PATH] [--emit N]";
+
+const COUNT: usize = 100_000;
+const SMALL_COUNT: usize = 3_000;
+
+/// A sample is an even choice from so many times its size, without its longest requests.
+const SAMPLE_FROM: usize = 20;
+const SAMPLE_LONGEST: usize = 1_500;
+
+struct Options {
+    calls: Option<Vec<Call>>,
+    count: usize,
+    seed: u64,
+    show: usize,
+    emit: Option<usize>,
+    probe: PathBuf,
+    oracle: PathBuf,
+    scratch: PathBuf,
+}
+
+fn main() -> ExitCode {
+    let arguments: Vec<String> = std::env::args().skip(1).collect();
+    match options(&arguments) {
+        Ok(options) => match options.emit {
+            Some(size) => emit(&options, size),
+            None => compare(&options),
+        },
+        Err(problem) => {
+            eprintln!("{problem}\n{USAGE}");
+            ExitCode::from(2)
+        }
+    }
+}
+
+fn options(arguments: &[String]) -> Result<Options, String> {
+    let mut options = Options {
+        calls: None,
+        count: COUNT,
+        seed: 1,
+        show: 50,
+        emit: None,
+        probe: "target/bin/probe".into(),
+        oracle: "target/oracle/oracle".into(),
+        scratch: "target/differential".into(),
+    };
+    let mut rest = arguments.iter();
+    while let Some(option) = rest.next() {
+        if option == "--small" {
+            options.count = SMALL_COUNT;
+            continue;
+        }
+        let value = rest.next().ok_or(format!("{option} wants a value"))?;
+        match option.as_str() {
+            "--call" => options.calls = Some(calls(value)?),
+            "--count" => options.count = number(value)?,
+            "--seed" => options.seed = number(value)? as u64,
+            "--show" => options.show = number(value)?,
+            "--emit" => options.emit = Some(number(value)?),
+            "--probe" => options.probe = value.into(),
+            "--oracle" => options.oracle = value.into(),
+            "--scratch" => options.scratch = value.into(),
+            _ => return Err(format!("{option} is unknown")),
+        }
+    }
+    Ok(options)
+}
+
+fn number(digits: &str) -> Result<usize, String> {
+    digits.parse().map_err(|_| format!("{digits} is no number"))
+}
+
+fn calls(words: &str) -> Result<Vec<Call>, String> {
+    let call = |word| Call::named(word).ok_or(format!("{word} is no call"));
+    words.split(',').map(call).collect()
+}
+
+fn compare(options: &Options) -> ExitCode {
+    let oracle = Program {
+        name: "oracle",
+        path: options.oracle.clone(),
+    };
+    let probe = Program {
+        name: "probe",
+        path: options.probe.clone(),
+    };
+    let calls = options.calls.clone().unwrap_or_else(|| known_calls(&probe, &options.scratch));
+    if calls.is_empty() {
+        println!("the probe answers no call yet");
+        return ExitCode::FAILURE;
+    }
+    let mut comparison = Comparison::new(&oracle, &probe, &options.scratch, options.show);
+    for call in calls {
+        generate::generate(call, options.count, options.seed, &mut |case| comparison.take(case));
+        comparison.finish(call);
+    }
+    match comparison.differences {
+        0 => {
+            println!("no difference");
+            ExitCode::SUCCESS
+        }
+        count => {
+            println!("{count} differences; their requests are in {}/different", options.scratch.display());
+            ExitCode::FAILURE
+        }
+    }
+}
+
+/// The calls that the probe doesn't put off.
+fn known_calls(probe: &Program, scratch: &Path) -> Vec<Call> {
+    let known = Call::ALL.into_iter().filter(|call| {
+        let is_known = probe.ask(call.simplest(), scratch) != "not yet";
+        if !is_known {
+            println!("{}: not yet", call.word());
+        }
+        is_known
+    });
+    known.collect()
+}
+
+/// Prints requests for a stored sample, the same number for each call.
+fn emit(options: &Options, size: usize) -> ExitCode {
+    let calls = options.calls.clone().unwrap_or(Call::ALL.to_vec());
+    let share = size.div_ceil(calls.len());
+    for call in calls {
+        let mut requests = Vec::new();
+        generate::generate(call, share * SAMPLE_FROM, options.seed, &mut |case| {
+            if case.request.len() <= SAMPLE_LONGEST {
+                requests.push(case.request);
+            }
+        });
+        for index in 0..share.min(requests.len()) {
+            println!("{}", requests[index * requests.len() / share]);
+        }
+    }
+    ExitCode::SUCCESS
+}
