@@ -16,10 +16,10 @@ use std::path::{Path, PathBuf};
 use std::process::ExitCode;
 
 const USAGE: &str = "usage: tools/differential [--call CALL,..] [--count N] [--seed S] [--small] [--show N]
-                          [--probe PATH] [--oracle PATH] [--emit N]";
+                          [--probe PATH] [--oracle PATH] [--examples PATH] [--emit N]";
 
 const COUNT: usize = 100_000;
-const SMALL_COUNT: usize = 3_000;
+const SMALL_COUNT: usize = 5_000;
 
 /// A sample is an even choice from so many times its size, without its longest requests.
 const SAMPLE_FROM: usize = 20;
@@ -31,6 +31,8 @@ struct Options {
     seed: u64,
     show: usize,
     emit: Option<usize>,
+    /// Requests that go before the generated ones.
+    examples: Vec<String>,
     probe: PathBuf,
     oracle: PathBuf,
     scratch: PathBuf,
@@ -57,6 +59,7 @@ fn options(arguments: &[String]) -> Result<Options, String> {
         seed: 1,
         show: 50,
         emit: None,
+        examples: Vec::new(),
         probe: "target/bin/probe".into(),
         oracle: "target/oracle/oracle".into(),
         scratch: "target/differential".into(),
@@ -74,6 +77,7 @@ fn options(arguments: &[String]) -> Result<Options, String> {
             "--seed" => options.seed = number(value)? as u64,
             "--show" => options.show = number(value)?,
             "--emit" => options.emit = Some(number(value)?),
+            "--examples" => options.examples = lines(value)?,
             "--probe" => options.probe = value.into(),
             "--oracle" => options.oracle = value.into(),
             "--scratch" => options.scratch = value.into(),
@@ -85,6 +89,11 @@ fn options(arguments: &[String]) -> Result<Options, String> {
 
 fn number(digits: &str) -> Result<usize, String> {
     digits.parse().map_err(|_| format!("{digits} is no number"))
+}
+
+fn lines(path: &str) -> Result<Vec<String>, String> {
+    let text = std::fs::read_to_string(path).map_err(|error| format!("{path}: {error}"))?;
+    Ok(text.lines().map(str::to_string).collect())
 }
 
 fn calls(words: &str) -> Result<Vec<Call>, String> {
@@ -108,6 +117,9 @@ fn compare(options: &Options) -> ExitCode {
     }
     let mut comparison = Comparison::new(&oracle, &probe, &options.scratch, options.show);
     for call in calls {
+        for example in options.examples.iter().filter(|request| belongs(request, call)) {
+            comparison.take(example.clone().into());
+        }
         generate::generate(call, options.count, options.seed, &mut |case| comparison.take(case));
         comparison.finish(call);
     }
@@ -123,6 +135,12 @@ fn compare(options: &Options) -> ExitCode {
     }
 }
 
+/// A request that names no call goes with the first.
+fn belongs(request: &str, call: Call) -> bool {
+    let word = request.split(' ').next().unwrap_or_default();
+    Call::named(word).unwrap_or(Call::ALL[0]) == call
+}
+
 /// The calls that the probe doesn't put off.
 fn known_calls(probe: &Program, scratch: &Path) -> Vec<Call> {
     let known = Call::ALL.into_iter().filter(|call| {
@@ -135,10 +153,13 @@ fn known_calls(probe: &Program, scratch: &Path) -> Vec<Call> {
     known.collect()
 }
 
-/// Prints requests for a stored sample, the same number for each call.
+/// Prints requests for a stored sample: the examples, and as many as told in equal parts for each call.
 fn emit(options: &Options, size: usize) -> ExitCode {
     let calls = options.calls.clone().unwrap_or(Call::ALL.to_vec());
     let share = size.div_ceil(calls.len());
+    for example in &options.examples {
+        println!("{example}");
+    }
     for call in calls {
         let mut requests = Vec::new();
         generate::generate(call, share * SAMPLE_FROM, options.seed, &mut |case| {

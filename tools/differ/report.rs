@@ -104,10 +104,8 @@ impl<'a> Comparison<'a> {
             if expected != found || expected == "oracle inconsistent" {
                 self.differs(&[&case.request], &[("oracle", expected), ("probe", found)]);
             }
+            // The probe's answers are these, or differ already.
             self.check_law(&batch, index, &oracle);
-            if oracle.lines.get(index.wrapping_sub(1)) != probe.lines.get(index.wrapping_sub(1)) || expected != found {
-                self.check_law(&batch, index, &probe);
-            }
         }
     }
 

@@ -67,9 +67,9 @@ pub fn damaged(text: &[u8], tokens: &Tokens, random: &mut Random) -> Vec<u8> {
     text
 }
 
-const ATOMS: [&str; 22] = [
-    "a", "b1", "x_y", "1", "'q,('", "\"s)\"", "'it''s'", "'\\''", "/* , */", "a::b", "c ? d : e", "p->q", "a >= b",
-    "a<=b", "v<w>", "std::pair<a, b>", "m<n<o>>", "i<j", "-1", "a//b", "&r", "!e",
+const ATOMS: [&str; 26] = [
+    "a", "b1", "x_y", "1", "n", "i", "j+k", "m(1)", "'q,('", "\"s)\"", "'it''s'", "'\\''", "/* , */", "a::b", "c ? d : e",
+    "p->q", "a >= b", "a<=b", "v<w>", "std::pair<a, b>", "m<n<o>>", "i<j", "-1", "a//b", "&r", "!e",
 ];
 
 /// A text of items with brackets in them, mostly well formed.

@@ -28,7 +28,7 @@ const FORTRAN_TOKENS: &Tokens = &[
 
 /// Between words, without line ends of their own.
 const C_GAPS: [&str; 8] = ["", "", " ", " ", "\t", "/* c */", "  ", "/**/"];
-const FORTRAN_GAPS: [&str; 9] = ["", "", " ", " ", "\t", "  ", "&\n", " &\n!$omp& ", "&\r\n  "];
+const FORTRAN_GAPS: [&str; 10] = ["", "", " ", " ", "\t", "  ", "&\n", " &\n!$& ", "&\r\n  ", "& ! c\n &"];
 
 /// Sizes of the lent text, map and records.
 #[derive(Clone, Copy)]
@@ -48,7 +48,7 @@ impl Sizes {
     }
 
     fn around(length: usize, random: &mut Random) -> Self {
-        let records = random.pick(&[0, 1, 2, 3, 6, 6, 512]);
+        let records = random.pick(&[0, 1, 2, 3, 6, 9, 512, 512]);
         match random.percent(15) {
             true => Self {
                 text: near(length, random),
@@ -246,9 +246,9 @@ fn broken_pair(prefix: &str, book: &[u8], text: &[u8], sink: &mut Sink, random: 
 fn c_line(prefix: &str, book: &Book, random: &mut Random) -> Vec<u8> {
     let mut line = String::from(random.pick(&["", "", "", " ", "/* c */", "\t"]));
     line += if random.percent(98) { "#pragma" } else { "#pragm" };
-    line += required(&C_GAPS, random);
+    line += &required(&C_GAPS, random);
     line += if random.percent(97) { prefix } else { "omp" };
-    line += required(&C_GAPS, random);
+    line += &required(&C_GAPS, random);
     line += &name(book, &C_GAPS, random);
     line += &clauses(book, &C_GAPS, random);
     line += random.pick(&["", "", "", "", "\n", "\\\n", " ", "\x0b", "\n \t"]);
@@ -265,17 +265,18 @@ fn fortran_line(language: &str, prefix: &str, book: &Book, random: &mut Random) 
         _ => format!("!${prefix}"),
     };
     let mut line = mixed_case(&start, random);
-    line += required(&FORTRAN_GAPS, random);
+    line += &required(&FORTRAN_GAPS, random);
     line += &name(book, &FORTRAN_GAPS, random);
     line += &clauses(book, &FORTRAN_GAPS, random);
     line += random.pick(&["", "", "", "", "\n", "&\n", "&", " ! e", "\x0b"]);
     line.into_bytes()
 }
 
-/// A gap that is there, but for a few cases.
-fn required<'a>(gaps: &[&'a str], random: &mut Random) -> &'a str {
+/// A gap with a blank in it, but for a few cases.
+fn required(gaps: &[&str], random: &mut Random) -> String {
     let gap = random.pick(gaps);
-    if gap.is_empty() && random.percent(97) { " " } else { gap }
+    let blank = if random.percent(95) { " " } else { "" };
+    format!("{gap}{blank}")
 }
 
 /// A directive of the book, its words apart or together, or something else.
@@ -285,11 +286,11 @@ fn name(book: &Book, gaps: &[&str], random: &mut Random) -> String {
     }
     let words: Vec<String> = random.pick(&book.directives).split(' ').map(str::to_string).collect();
     let gap = match (book.flags & 2 == 2 && random.percent(50), random.percent(70)) {
-        (true, _) => "",
-        (false, true) => " ",
+        (true, _) => String::new(),
+        (false, true) => " ".to_string(),
         (false, false) => required(gaps, random),
     };
-    let name = words.join(gap);
+    let name = words.join(&gap);
     match random.percent(if book.flags == 0 { 3 } else { 40 }) {
         true => mixed_case(&name, random),
         false => name,

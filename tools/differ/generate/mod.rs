@@ -1,4 +1,4 @@
-//! Requests for each call: boundaries first, then all short inputs up to half the count, then random ones.
+//! Requests for each call: boundaries, then all short inputs up to half the count, then as many random ones.
 
 mod book;
 mod line;
@@ -37,7 +37,8 @@ pub fn generate(call: Call, count: usize, seed: u64, take: &mut dyn FnMut(Case))
         Call::Sequence => sequence::short(half, sink, random),
         Call::Line => line::short(half, sink, random),
     }
-    while sink.given < count {
+    let all = sink.given + half;
+    while sink.given < all.max(count) {
         match call {
             Call::Trim => trim::random(sink, random),
             Call::Split => split::random(sink, random),

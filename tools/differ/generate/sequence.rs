@@ -11,8 +11,12 @@ pub const TOKENS: &Tokens = &[
     b"!", b"\x0b", b"\r", b"\"", b"\\", b"!$", b"{", b"}",
 ];
 
-/// What may stand between words, line ends included.
-const GAPS: [&str; 12] = ["", "", " ", " ", "\t", "/* c */", "// c\n", "\\\n", "! c\n", "&\n", "\x0b", "\n"];
+/// Fewer tokens for longer texts around one content.
+const MATCH_TOKENS: &Tokens = &[b"i(", b")", b"a", b" ", b"'", b"/", b"*", b"!", b"$", b"\n", b"[", b"]"];
+
+/// What may stand between words, line ends included, and last what may not.
+const C_GAPS: [&str; 12] = ["", "", "", " ", " ", "\t", "\n", "/* c */", "/***/", "// c\n", "\\\n", "\x0b"];
+const FORTRAN_GAPS: [&str; 12] = ["", "", "", " ", " ", "\t", "\r\n", "! c\n", "!$\n", "&\n", "& !\n!$acc&", "/**/"];
 
 fn ask(slots: usize, book: &[u8], text: &[u8]) -> String {
     format!("seq {slots} {} {}", hexadecimal(book), hexadecimal(text))
@@ -67,9 +71,11 @@ pub fn boundaries(sink: &mut Sink) {
 pub fn short(limit: usize, sink: &mut Sink, random: &mut Random) {
     let books = small_books();
     for book in &books {
-        short_texts(TOKENS, limit / books.len(), random, |random, text| {
-            sink.give(ask(random.pick(&[0, 1, 2, 3, 4]), book, text));
-        });
+        for tokens in [TOKENS, MATCH_TOKENS] {
+            short_texts(tokens, limit / books.len() / 2, random, |random, text| {
+                sink.give(ask(random.pick(&[0, 1, 2, 3, 4]), book, text));
+            });
+        }
     }
 }
 
@@ -81,11 +87,12 @@ pub fn random(sink: &mut Sink, random: &mut Random) {
         _ => Book::small(flags, default),
     };
     let bytes = book.bytes();
+    let gaps = if book.is_fortran() { &FORTRAN_GAPS } else { &C_GAPS };
     // Several texts for a book, as making one ready costs more than reading a text.
     for _ in 0..8 {
         let mut text = match random.below(4) {
             0 => random_text(TOKENS, 25, random),
-            _ => clauses(&book, &GAPS, random).into_bytes(),
+            _ => clauses(&book, gaps, random).into_bytes(),
         };
         if random.percent(35) {
             text = damaged(&text, TOKENS, random);
@@ -97,37 +104,45 @@ pub fn random(sink: &mut Sink, random: &mut Random) {
         sink.give(ask(slots, &bytes, &text));
     }
     if default == 3 {
-        let text = clauses(&book, &GAPS, random).into_bytes();
+        let text = clauses(&book, gaps, random).into_bytes();
         let more = book.with_more(random).bytes();
         sink.give_pair(ask(9, &bytes, &text), ask(9, &more, &text), Law::Appended);
     }
 }
 
-/// A run of clauses as the book has them, and some that it doesn't have.
+/// A run of clauses as the book has them, and some that it doesn't have. It begins with a blank.
 pub fn clauses(book: &Book, gaps: &[&str], random: &mut Random) -> String {
-    let mut text = String::new();
-    for _ in 0..random.between(0, 5) {
-        text += random.pick(gaps);
-        text += random.pick(&[" ", " ", ",", ", ", ""]);
+    let mut text = String::from(if random.percent(97) { " " } else { "," });
+    let most = if random.percent(3) { 60 } else { 5 };
+    for index in 0..random.between(0, most) {
+        if index > 0 {
+            text += random.pick(gaps);
+            text += random.pick(&[" ", " ", ",", ", ", ""]);
+        }
         text += random.pick(gaps);
         text += &clause(book, gaps, random);
     }
-    text += random.pick(&["", "", "", " ", ",", ", ", " /* e */", " // e", " ! e"]);
+    let comment = if book.is_fortran() { " ! e" } else { " // e" };
+    text += random.pick(&["", "", "", " ", ",", ", ", comment, "/*"]);
     text
 }
 
 fn clause(book: &Book, gaps: &[&str], random: &mut Random) -> String {
-    let (rule, name) = match random.percent(93) && !book.clauses.is_empty() {
+    let (rule, name) = match random.percent(97) && !book.clauses.is_empty() {
         true => random.pick(&book.clauses),
-        false => (random.below(4) as u8, random.pick(&["z", "q9", "_x"]).to_string()),
+        false => (2, random.pick(&["z", "q9", "_x"]).to_string()),
     };
-    let name = match random.percent(if book.is_fortran() { 50 } else { 5 }) {
+    // A rule that refuses ends the reading; take another name mostly.
+    if rule == 3 && random.percent(80) {
+        return clause(book, gaps, random);
+    }
+    let name = match random.percent(if book.is_fortran() { 50 } else { 2 }) {
         true => mixed_case(&name, random),
         false => name,
     };
     let has_content = match rule {
-        0 => random.percent(3),
-        1 => random.percent(97),
+        0 => random.percent(2),
+        1 => random.percent(98),
         _ => random.percent(50),
     };
     if !has_content {

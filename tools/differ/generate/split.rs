@@ -84,7 +84,9 @@ pub fn random(sink: &mut Sink, random: &mut Random) {
         0 => random_text(TOKENS, 30, random),
         _ => {
             let depth = random.between(0, 4);
-            list(separator, depth, random).into_bytes()
+            let lists = if random.percent(3) { 20 } else { 1 };
+            let lists: Vec<String> = (0..lists).map(|_| list(separator, depth, random)).collect();
+            lists.join(separator).into_bytes()
         }
     };
     if random.percent(40) {
@@ -94,5 +96,5 @@ pub fn random(sink: &mut Sink, random: &mut Random) {
         let at = random.below(text.len());
         text[at] = random.between(128, 255) as u8;
     }
-    sink.give(ask(way, random.pick(&[0, 1, 2, 3, 4, 5, 6, 8, 30]), &text));
+    sink.give(ask(way, random.pick(&[0, 1, 2, 3, 4, 5, 6, 8, 8, 30, 200]), &text));
 }
