@@ -110,7 +110,10 @@ fn compare(options: &Options) -> ExitCode {
         name: "probe",
         path: options.probe.clone(),
     };
-    let calls = options.calls.clone().unwrap_or_else(|| known_calls(&probe, &options.scratch));
+    let calls = options
+        .calls
+        .clone()
+        .unwrap_or_else(|| known_calls(&probe, &options.scratch));
     if calls.is_empty() {
         println!("the probe answers no call yet");
         return ExitCode::FAILURE;
@@ -129,7 +132,10 @@ fn compare(options: &Options) -> ExitCode {
             ExitCode::SUCCESS
         }
         count => {
-            println!("{count} differences; their requests are in {}/different", options.scratch.display());
+            println!(
+                "{count} differences; their requests are in {}/different",
+                options.scratch.display()
+            );
             ExitCode::FAILURE
         }
     }

@@ -113,8 +113,13 @@ impl<'a> Comparison<'a> {
         let Some(failure) = &answers.failure else {
             return;
         };
-        let first = batch.get(answers.lines.len()).map_or("(none)", |case| case.request.as_str());
-        self.differs(&[first], &[("failure", failure), ("above", "the first request without an answer")]);
+        let first = batch
+            .get(answers.lines.len())
+            .map_or("(none)", |case| case.request.as_str());
+        self.differs(
+            &[first],
+            &[("failure", failure), ("above", "the first request without an answer")],
+        );
     }
 
     fn check_law(&mut self, batch: &[Case], index: usize, answers: &Answers) {
@@ -153,7 +158,11 @@ impl<'a> Comparison<'a> {
     pub fn finish(&mut self, call: Call) {
         self.compare_batch();
         let total: usize = self.kinds.values().sum();
-        let kinds: Vec<String> = self.kinds.iter().map(|(kind, n)| format!("{} {n}", kind.text())).collect();
+        let kinds: Vec<String> = self
+            .kinds
+            .iter()
+            .map(|(kind, n)| format!("{} {n}", kind.text()))
+            .collect();
         println!("{}: {total} compared ({})", call.word(), kinds.join(", "));
         println!("  not the Rust's but added: {}", call.added());
         for (law, count) in &self.laws {

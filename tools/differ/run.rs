@@ -36,7 +36,11 @@ impl Program {
         let failure = if !output.status.success() {
             Some(format!("{} ended with {}", self.name, output.status))
         } else if lines.len() != expected {
-            Some(format!("{} gave {} answers to {expected} requests", self.name, lines.len()))
+            Some(format!(
+                "{} gave {} answers to {expected} requests",
+                self.name,
+                lines.len()
+            ))
         } else {
             None
         };

@@ -5,12 +5,7 @@ use crate::random::Random;
 pub type Tokens = [&'static [u8]];
 
 /// All words of 0, 1, 2, ... tokens while they fit into the limit, then an even choice of the next longer ones up to it.
-pub fn short_texts(
-    tokens: &Tokens,
-    limit: usize,
-    random: &mut Random,
-    mut each: impl FnMut(&mut Random, &[u8]),
-) {
+pub fn short_texts(tokens: &Tokens, limit: usize, random: &mut Random, mut each: impl FnMut(&mut Random, &[u8])) {
     let (mut length, mut all, mut left) = (0, 1, limit);
     while all <= left {
         for index in 0..all {
@@ -68,8 +63,32 @@ pub fn damaged(text: &[u8], tokens: &Tokens, random: &mut Random) -> Vec<u8> {
 }
 
 const ATOMS: [&str; 26] = [
-    "a", "b1", "x_y", "1", "n", "i", "j+k", "m(1)", "'q,('", "\"s)\"", "'it''s'", "'\\''", "/* , */", "a::b", "c ? d : e",
-    "p->q", "a >= b", "a<=b", "v<w>", "std::pair<a, b>", "m<n<o>>", "i<j", "-1", "a//b", "&r", "!e",
+    "a",
+    "b1",
+    "x_y",
+    "1",
+    "n",
+    "i",
+    "j+k",
+    "m(1)",
+    "'q,('",
+    "\"s)\"",
+    "'it''s'",
+    "'\\''",
+    "/* , */",
+    "a::b",
+    "c ? d : e",
+    "p->q",
+    "a >= b",
+    "a<=b",
+    "v<w>",
+    "std::pair<a, b>",
+    "m<n<o>>",
+    "i<j",
+    "-1",
+    "a//b",
+    "&r",
+    "!e",
 ];
 
 /// A text of items with brackets in them, mostly well formed.

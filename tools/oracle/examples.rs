@@ -57,9 +57,7 @@ fn compare(examples: &[Example], answers: &[String]) -> usize {
     for (index, example) in examples.iter().enumerate() {
         let found = answers.get(index).map_or("(no answer)", String::as_str);
         let agrees = match example.answer.strip_suffix(" ...") {
-            Some(head) => found
-                .strip_prefix(head)
-                .is_some_and(|rest| rest.starts_with(" :")),
+            Some(head) => found.strip_prefix(head).is_some_and(|rest| rest.starts_with(" :")),
             None => found == example.answer,
         };
         if !agrees {
@@ -202,10 +200,7 @@ fn bytes_of(expression: &str, names: &Names) -> Vec<u8> {
         let factors = parts(&term, '*');
         let once = match factors[0].starts_with('"') {
             true => quoted(&factors[0]),
-            false => names
-                .get(&factors[0])
-                .expect("a name defined above")
-                .clone(),
+            false => names.get(&factors[0]).expect("a name defined above").clone(),
         };
         let count = factors.get(1).map_or(1, |count| number(count));
         bytes.extend(once.repeat(count));
@@ -214,9 +209,7 @@ fn bytes_of(expression: &str, names: &Names) -> Vec<u8> {
 }
 
 fn quoted(literal: &str) -> Vec<u8> {
-    let inside = literal
-        .strip_prefix('"')
-        .and_then(|rest| rest.strip_suffix('"'));
+    let inside = literal.strip_prefix('"').and_then(|rest| rest.strip_suffix('"'));
     let mut letters = inside.expect("a quoted text").chars();
     let mut bytes = Vec::new();
     while let Some(letter) = letters.next() {

@@ -49,7 +49,9 @@ fn every_fault(book: &[u8], sink: &mut Sink) {
                 sink.give(ask(&changed));
             }
         }
-        for byte in [b'D', b'B', 31, 33, 47, 48, 57, 58, 64, 65, 90, 91, 94, 95, 96, 97, 122, 123, 127, 128] {
+        for byte in [
+            b'D', b'B', 31, 33, 47, 48, 57, 58, 64, 65, 90, 91, 94, 95, 96, 97, 122, 123, 127, 128,
+        ] {
             if at < book.len() {
                 let mut changed = book.to_vec();
                 changed[at] = byte;

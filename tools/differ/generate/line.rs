@@ -14,7 +14,8 @@ const C_OPENINGS: &Tokens = &[
 ];
 
 const C_TOKENS: &Tokens = &[
-    b"p", b"a", b"i", b"f", b"u", b"z", b" ", b",", b"(", b")", b"/*", b"*/", b"//", b"'", b"\\\n", b"\\", b"\n", b"\x0b", b"\r",
+    b"p", b"a", b"i", b"f", b"u", b"z", b" ", b",", b"(", b")", b"/*", b"*/", b"//", b"'", b"\\\n", b"\\", b"\n",
+    b"\x0b", b"\r",
 ];
 
 const FORTRAN_OPENINGS: &Tokens = &[
@@ -22,8 +23,8 @@ const FORTRAN_OPENINGS: &Tokens = &[
 ];
 
 const FORTRAN_TOKENS: &Tokens = &[
-    b"p", b"P", b"a", b"i", b"f", b"u", b" ", b",", b"(", b")", b"!", b"'", b"&\n", b"&", b"!$omp", b"!$acc", b"\n", b"\x0b",
-    b"/*", b"c$omp",
+    b"p", b"P", b"a", b"i", b"f", b"u", b" ", b",", b"(", b")", b"!", b"'", b"&\n", b"&", b"!$omp", b"!$acc", b"\n",
+    b"\x0b", b"/*", b"c$omp",
 ];
 
 /// Between words, without line ends of their own.
@@ -105,7 +106,13 @@ fn full_lines(language: &str, opening: &str, ending: &str, book: &[u8], sink: &m
     for records in [511, 512] {
         let sizes = Sizes::for_line(clauses.len(), records);
         sink.give(ask(language, "omp", sizes, book, clauses.as_bytes()));
-        sink.give(ask(language, "omp", sizes, book, &clauses.as_bytes()[..opening.len() + 2 * records]));
+        sink.give(ask(
+            language,
+            "omp",
+            sizes,
+            book,
+            &clauses.as_bytes()[..opening.len() + 2 * records],
+        ));
     }
 }
 
@@ -130,7 +137,14 @@ fn deep_lines(language: &str, opening: &str, book: &[u8], sink: &mut Sink) {
 fn wrong_books(sink: &mut Sink) {
     let good = b"#pragma omp p a".to_vec();
     let long = vec![b'a'; 16_385];
-    let lines = [good.clone(), vec![200; 3], b"x\ny".to_vec(), b"x\r".to_vec(), Vec::new(), long];
+    let lines = [
+        good.clone(),
+        vec![200; 3],
+        b"x\ny".to_vec(),
+        b"x\r".to_vec(),
+        Vec::new(),
+        long,
+    ];
     let right = Book::small(0, 3).bytes();
     let cut = right[..right.len() - 1].to_vec();
     let foreign = Book::small(1, 3).bytes();

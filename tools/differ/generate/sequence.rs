@@ -7,16 +7,31 @@ use crate::random::Random;
 use crate::texts::{Tokens, damaged, list, mixed_case, random_text, short_texts};
 
 pub const TOKENS: &Tokens = &[
-    b"a", b"i", b"f", b"u", b"z", b"A", b" ", b",", b"(", b")", b"[", b"]", b"/*", b"*/", b"//", b"\n", b"'", b"\\\n", b"&\n",
-    b"!", b"\x0b", b"\r", b"\"", b"\\", b"!$", b"{", b"}",
+    b"a", b"i", b"f", b"u", b"z", b"A", b" ", b",", b"(", b")", b"[", b"]", b"/*", b"*/", b"//", b"\n", b"'", b"\\\n",
+    b"&\n", b"!", b"\x0b", b"\r", b"\"", b"\\", b"!$", b"{", b"}",
 ];
 
 /// Fewer tokens for longer texts around one content.
 const MATCH_TOKENS: &Tokens = &[b"i(", b")", b"a", b" ", b"'", b"/", b"*", b"!", b"$", b"\n", b"[", b"]"];
 
 /// What may stand between words, line ends included, and last what may not.
-const C_GAPS: [&str; 12] = ["", "", "", " ", " ", "\t", "\n", "/* c */", "/***/", "// c\n", "\\\n", "\x0b"];
-const FORTRAN_GAPS: [&str; 12] = ["", "", "", " ", " ", "\t", "\r\n", "! c\n", "!$\n", "&\n", "& !\n!$acc&", "/**/"];
+const C_GAPS: [&str; 12] = [
+    "", "", "", " ", " ", "\t", "\n", "/* c */", "/***/", "// c\n", "\\\n", "\x0b",
+];
+const FORTRAN_GAPS: [&str; 12] = [
+    "",
+    "",
+    "",
+    " ",
+    " ",
+    "\t",
+    "\r\n",
+    "! c\n",
+    "!$\n",
+    "&\n",
+    "& !\n!$acc&",
+    "/**/",
+];
 
 fn ask(slots: usize, book: &[u8], text: &[u8]) -> String {
     format!("seq {slots} {} {}", hexadecimal(book), hexadecimal(text))
@@ -24,7 +39,9 @@ fn ask(slots: usize, book: &[u8], text: &[u8]) -> String {
 
 fn small_books() -> Vec<Vec<u8>> {
     let kinds = (0..2).flat_map(|flags| (0..4).map(move |default| (flags, default)));
-    kinds.map(|(flags, default)| Book::small(flags, default).bytes()).collect()
+    kinds
+        .map(|(flags, default)| Book::small(flags, default).bytes())
+        .collect()
 }
 
 pub fn boundaries(sink: &mut Sink) {

@@ -9,8 +9,8 @@ use crate::texts::{Tokens, damaged, random_text, short_texts};
 const C_TOKENS: &Tokens = &[b"\\", b"\n", b"\r", b"a", b" ", b"\x0b", b"\\\n", b"&"];
 
 const FORTRAN_TOKENS: &Tokens = &[
-    b"&", b"\n", b"\r", b"!", b" ", b"a", b"'", b"!$omp", b"!$acc", b"c$omp", b"!$", b"\t", b"\x0b", b"&\r\n", b"*$ACC",
-    b"\"", b"\\",
+    b"&", b"\n", b"\r", b"!", b" ", b"a", b"'", b"!$omp", b"!$acc", b"c$omp", b"!$", b"\t", b"\x0b", b"&\r\n",
+    b"*$ACC", b"\"", b"\\",
 ];
 
 const COPY_TOKENS: &Tokens = &[
@@ -75,7 +75,9 @@ pub fn join_random(sink: &mut Sink, random: &mut Random) {
         (_, true) => random_text(FORTRAN_TOKENS, 30, random),
         (_, false) => continued(
             &["&\n", "& \t\n", "&\r\n", "&! c\n", " &\n"],
-            &["", " ", "!$omp", " !$omp &", "&", "\t&", "!$acc ", "c$omp", "*$ &", "!$"],
+            &[
+                "", " ", "!$omp", " !$omp &", "&", "\t&", "!$acc ", "c$omp", "*$ &", "!$",
+            ],
             random,
         ),
     };
@@ -83,8 +85,15 @@ pub fn join_random(sink: &mut Sink, random: &mut Random) {
         let tokens = if language == "c" { C_TOKENS } else { FORTRAN_TOKENS };
         line = damaged(&line, tokens, random);
     }
+    if random.percent(1) {
+        line.insert(random.below(line.len() + 1), 128);
+    }
     let sizes = (near(line.len(), random), near(line.len() + 1, random));
-    let sizes = if random.percent(70) { (line.len(), line.len() + 1) } else { sizes };
+    let sizes = if random.percent(70) {
+        (line.len(), line.len() + 1)
+    } else {
+        sizes
+    };
     sink.give(ask_join(language, prefix, sizes, &line));
 }
 
@@ -130,7 +139,11 @@ pub fn random_breaks(length: usize, random: &mut Random) -> Vec<Vec<u8>> {
 
 fn ask_back(length: usize, start: usize, end: usize, map: &[usize]) -> String {
     let entries: Vec<String> = map.iter().map(usize::to_string).collect();
-    let map = if map.is_empty() { "-".to_string() } else { entries.join(",") };
+    let map = if map.is_empty() {
+        "-".to_string()
+    } else {
+        entries.join(",")
+    };
     format!("back {length} {start} {end} {map}")
 }
 
@@ -210,7 +223,14 @@ pub fn copy_short(limit: usize, sink: &mut Sink, random: &mut Random) {
 }
 
 pub fn copy_random(sink: &mut Sink, random: &mut Random) {
-    let content = random_text(COPY_TOKENS, 40, random);
-    let slots = if random.percent(80) { content.len() } else { near(content.len(), random) };
+    let mut content = random_text(COPY_TOKENS, 40, random);
+    if random.percent(1) {
+        content.insert(random.below(content.len() + 1), 255);
+    }
+    let slots = if random.percent(80) {
+        content.len()
+    } else {
+        near(content.len(), random)
+    };
     sink.give(ask_copy(slots, &content));
 }

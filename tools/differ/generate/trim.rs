@@ -6,8 +6,8 @@ use crate::texts::{Tokens, random_text, short_texts};
 
 /// The blanks, their neighbours, and bytes that are blank elsewhere.
 const TOKENS: &Tokens = &[
-    b"\x09", b"\x0a", b"\x0b", b"\x0c", b"\x0d", b" ", b"a", b"\x08", b"\x0e", b"\x1c", b"\x1f", b"\x00", b"!", b"\x7f",
-    b"\x80", b"\x85", b"\xa0", b"\xff",
+    b"\x09", b"\x0a", b"\x0b", b"\x0c", b"\x0d", b" ", b"a", b"\x08", b"\x0e", b"\x1c", b"\x1f", b"\x00", b"!",
+    b"\x7f", b"\x80", b"\x85", b"\xa0", b"\xff",
 ];
 
 const BLANKS: &Tokens = &[b"\x09", b"\x0a", b"\x0b", b"\x0c", b"\x0d", b" "];

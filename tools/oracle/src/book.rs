@@ -42,10 +42,7 @@ fn entries(bytes: &[u8]) -> Option<Entries<'_>> {
         clauses.push(Entry { at, rule, name });
         at += 2 + name.len();
     }
-    (at == bytes.len()).then_some(Entries {
-        directives,
-        clauses,
-    })
+    (at == bytes.len()).then_some(Entries { directives, clauses })
 }
 
 /// The name behind a length byte.
@@ -151,8 +148,7 @@ impl Book {
         for entry in &entries.clauses {
             clauses.register_with_rule_mut(names.lasting(entry.name), rule_of(entry.rule));
         }
-        let mut all_of =
-            |list: &[Entry]| list.iter().map(|entry| names.lasting(entry.name)).collect();
+        let mut all_of = |list: &[Entry]| list.iter().map(|entry| names.lasting(entry.name)).collect();
         Self {
             fortran,
             strict: bytes[6] == 3,

@@ -139,9 +139,8 @@ fn separator_of(word: &[u8]) -> Option<char> {
 
 /// A decimal number without sign or needless zeros.
 fn number(word: &[u8], most: usize) -> Option<usize> {
-    let is_plain = (1..=6).contains(&word.len())
-        && word.iter().all(u8::is_ascii_digit)
-        && (word.len() == 1 || word[0] != b'0');
+    let is_plain =
+        (1..=6).contains(&word.len()) && word.iter().all(u8::is_ascii_digit) && (word.len() == 1 || word[0] != b'0');
     if !is_plain {
         return None;
     }

@@ -67,9 +67,7 @@ pub mod bytes {
             }
         }
 
-        pub fn take_while1<'i>(
-            belongs: impl Fn(char) -> bool,
-        ) -> impl Fn(&'i str) -> IResult<&'i str, &'i str> {
+        pub fn take_while1<'i>(belongs: impl Fn(char) -> bool) -> impl Fn(&'i str) -> IResult<&'i str, &'i str> {
             move |input| match input.find(|found| !belongs(found)).unwrap_or(input.len()) {
                 0 => fail(input, ErrorKind::TakeWhile1),
                 end => Ok((&input[end..], &input[..end])),

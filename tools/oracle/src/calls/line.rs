@@ -6,9 +6,8 @@ use super::source::{Joined, joined};
 use crate::answer::{Checked, Inconsistent, Outcome, Refusal, refused};
 use crate::book::Book;
 use crate::lexer::{
-    Language, lex_dialect_keyword, lex_fortran_fixed_sentinel_with_prefix,
-    lex_fortran_free_sentinel_with_prefix, lex_pragma, skip_fortran_space1_and_comments,
-    skip_space_and_comments, skip_space1_and_comments,
+    Language, lex_dialect_keyword, lex_fortran_fixed_sentinel_with_prefix, lex_fortran_free_sentinel_with_prefix,
+    lex_pragma, skip_fortran_space1_and_comments, skip_space_and_comments, skip_space1_and_comments,
 };
 use crate::request::Joining;
 use nom::IResult;
@@ -59,11 +58,7 @@ pub fn read(book: &Book, line: &str, joining: &Joining, room: usize) -> Checked<
         Ok(clauses) => clauses,
         Err(refusal) => return Ok(Err(refusal)),
     };
-    Ok(Ok(Reading {
-        name,
-        joined,
-        clauses,
-    }))
+    Ok(Ok(Reading { name, joined, clauses }))
 }
 
 /// Rows 7 and 8 of the opening words, else the text behind them.
@@ -104,11 +99,7 @@ fn directive_name(book: &Book, text: &str, search: &str) -> Checked<Outcome<Name
         Ok((_, (entry, spelling))) => (spelling, entry),
         Err(failure) => {
             let place = place_of_failure(text, &failure);
-            let number = if place == text.len() - search.len() {
-                9
-            } else {
-                8
-            };
+            let number = if place == text.len() - search.len() { 9 } else { 8 };
             return Ok(refused(number, place));
         }
     };

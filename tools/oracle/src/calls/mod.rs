@@ -22,22 +22,7 @@ pub fn answer(request: &Request, shelf: &mut Shelf) -> Checked<String> {
             angles,
             slots,
             text,
-        } => {
-            let mut items = Lent::new(*slots);
-            let outcome = match admitted(text) {
-                Ok(text) => split::split(text, *separator, *angles, slots / 2)?,
-                Err(refusal) => Err(refusal),
-            };
-            match &outcome {
-                Ok(ranges) => {
-                    let flat = ranges.iter().flat_map(|r| [r.start as u16, r.end as u16]);
-                    items.keep(&flat.collect::<Vec<u16>>());
-                }
-                Err(_) => items.clear(),
-            }
-            let head = head(&outcome.map(|ranges| vec![ranges.len()]));
-            format!("{head} : {}", items.listed())
-        }
+        } => split(*separator, *angles, *slots, text)?,
         Request::Join(joining) => join(joining)?,
         Request::Back {
             length,
@@ -48,36 +33,57 @@ pub fn answer(request: &Request, shelf: &mut Shelf) -> Checked<String> {
             let outcome = source::map_back(map, *length, *start, *end)?;
             head(&outcome.map(|(start, end)| vec![start, end]))
         }
-        Request::Copy { slots, content } => {
-            let mut copy = Lent::new(*slots);
-            let outcome = source::copied(content, *slots);
-            match &outcome {
-                Ok(text) => copy.keep(text.as_bytes()),
-                Err(_) => copy.clear(),
-            }
-            let head = head(&outcome.map(|text| vec![text.len()]));
-            format!("{head} : {}", copy.listed())
-        }
+        Request::Copy { slots, content } => copy(*slots, content),
         Request::Book { book } => head(&opened(shelf, book).map(|_| vec![])),
-        Request::Sequence { slots, book, text } => {
-            let mut records = Lent::new(*slots);
-            let outcome = match admitted(text).and_then(|text| Ok((text, opened(shelf, book)?))) {
-                Ok((text, book)) => sequence::sequence(book, text, 0, *slots)?,
-                Err(refusal) => Err(refusal),
-            };
-            match &outcome {
-                Ok(read) => records.keep(&read.records),
-                Err(_) => records.clear(),
-            }
-            let head = head(&outcome.map(|read| vec![read.records.len(), read.rest]));
-            format!("{head} : {}", records.listed())
-        }
+        Request::Sequence { slots, book, text } => read_sequence(*slots, book, text, shelf)?,
         Request::Line {
             joining,
             record_slots,
             book,
         } => read_line(joining, *record_slots, book, shelf)?,
     })
+}
+
+fn split(separator: char, angles: bool, slots: usize, text: &[u8]) -> Checked<String> {
+    let mut items = Lent::new(slots);
+    let outcome = match admitted(text) {
+        Ok(text) => split::split(text, separator, angles, slots / 2)?,
+        Err(refusal) => Err(refusal),
+    };
+    match &outcome {
+        Ok(ranges) => {
+            let flat = ranges.iter().flat_map(|range| [range.start as u16, range.end as u16]);
+            items.keep(&flat.collect::<Vec<u16>>());
+        }
+        Err(_) => items.clear(),
+    }
+    let head = head(&outcome.map(|ranges| vec![ranges.len()]));
+    Ok(format!("{head} : {}", items.listed()))
+}
+
+fn copy(slots: usize, content: &[u8]) -> String {
+    let mut copy = Lent::new(slots);
+    let outcome = source::copied(content, slots);
+    match &outcome {
+        Ok(text) => copy.keep(text.as_bytes()),
+        Err(_) => copy.clear(),
+    }
+    let head = head(&outcome.map(|text| vec![text.len()]));
+    format!("{head} : {}", copy.listed())
+}
+
+fn read_sequence(slots: usize, book: &[u8], text: &[u8], shelf: &mut Shelf) -> Checked<String> {
+    let mut records = Lent::new(slots);
+    let outcome = match admitted(text).and_then(|text| Ok((text, opened(shelf, book)?))) {
+        Ok((text, book)) => sequence::sequence(book, text, 0, slots)?,
+        Err(refusal) => Err(refusal),
+    };
+    match &outcome {
+        Ok(read) => records.keep(&read.records),
+        Err(_) => records.clear(),
+    }
+    let head = head(&outcome.map(|read| vec![read.records.len(), read.rest]));
+    Ok(format!("{head} : {}", records.listed()))
 }
 
 fn join(joining: &Joining) -> Checked<String> {
@@ -101,12 +107,7 @@ fn join(joining: &Joining) -> Checked<String> {
     Ok(format!("{head} : {} : {}", text.listed(), map.listed()))
 }
 
-fn read_line(
-    joining: &Joining,
-    record_slots: usize,
-    book: &[u8],
-    shelf: &mut Shelf,
-) -> Checked<String> {
+fn read_line(joining: &Joining, record_slots: usize, book: &[u8], shelf: &mut Shelf) -> Checked<String> {
     let mut text = Lent::new(joining.text_slots);
     let mut map = Lent::new(joining.map_slots);
     let mut records = Lent::new(record_slots);
@@ -158,11 +159,7 @@ fn trimmed(text: &[u8]) -> (usize, usize) {
     let letters = |byte: &u8| if *byte > 127 { 'x' } else { char::from(*byte) };
     let text: String = text.iter().map(letters).collect();
     let part = text.trim();
-    let start = if part.is_empty() {
-        0
-    } else {
-        place_of(&text, part)
-    };
+    let start = if part.is_empty() { 0 } else { place_of(&text, part) };
     (start, start + part.len())
 }
 

@@ -123,8 +123,7 @@ impl<'a> Reader<'a> {
     fn separator(&self, input: &'a str) -> IResult<&'a str, bool> {
         let registry = &self.book.clause_registry;
         let (input, _) = registry.skip_trivia(input)?;
-        let (input, comma) =
-            nom::combinator::opt(nom::character::complete::char(',')).parse(input)?;
+        let (input, comma) = nom::combinator::opt(nom::character::complete::char(',')).parse(input)?;
         let (input, _) = registry.skip_trivia(input)?;
         Ok((input, comma.is_some()))
     }
@@ -169,10 +168,7 @@ impl<'a> Reader<'a> {
 
     /// The parenthesis behind a clause's name and the trivia after it.
     fn opening_behind(&self, name_end: usize) -> Checked<usize> {
-        let behind = self
-            .book
-            .clause_registry
-            .skip_trivia(&self.text[name_end..]);
+        let behind = self.book.clause_registry.skip_trivia(&self.text[name_end..]);
         let (rest, _) = behind.map_err(|_| Inconsistent)?;
         ensure(rest.starts_with('('))?;
         Ok(self.place(rest))
@@ -223,11 +219,7 @@ impl<'a> Reader<'a> {
     }
 
     /// `parse_sequence` must have read the same clauses and ended at the same place.
-    fn compare(
-        &self,
-        end: Outcome<usize>,
-        published: &IResult<&str, Vec<LocatedClause>>,
-    ) -> Checked<()> {
+    fn compare(&self, end: Outcome<usize>, published: &IResult<&str, Vec<LocatedClause>>) -> Checked<()> {
         let (rest, clauses) = match published {
             Ok(read) => read,
             Err(failure) => return ensure(end == Err(refusal_of(self.text, failure))),
@@ -255,8 +247,7 @@ impl<'a> Reader<'a> {
         ensure(match &clause.kind {
             ClauseKind::Bare => !record.parenthesized && content == (0..0),
             ClauseKind::Parenthesized(collapsed) => {
-                record.parenthesized
-                    && collapse_line_continuations(&self.text[content]) == *collapsed
+                record.parenthesized && collapse_line_continuations(&self.text[content]) == *collapsed
             }
             _ => false,
         })

@@ -3,9 +3,7 @@
 
 use super::{LONGEST, admitted};
 use crate::answer::{Checked, Inconsistent, Outcome, ensure, refused};
-use crate::lexer::{
-    Language, LogicalSource, LogicalSourceError, collapse_line_continuations, reach,
-};
+use crate::lexer::{Language, LogicalSource, LogicalSourceError, collapse_line_continuations, reach};
 use crate::request::Joining;
 use crate::source::SourceError;
 use std::borrow::Cow;
@@ -51,12 +49,7 @@ pub fn joined(line: &str, language: Language, prefix: &str) -> Checked<Outcome<J
 
 /// Rows 1, 3 and 19, else the two entries, from `span` of a source with that map. Entries that fall make no span in the Rust;
 /// they are handed out as they are.
-pub fn map_back(
-    map: &[u16],
-    length: usize,
-    start: usize,
-    end: usize,
-) -> Checked<Outcome<(usize, usize)>> {
+pub fn map_back(map: &[u16], length: usize, start: usize, end: usize) -> Checked<Outcome<(usize, usize)>> {
     if length > LONGEST {
         return Ok(refused(1, LONGEST));
     }
@@ -68,9 +61,7 @@ pub fn map_back(
     match source.span(start..end) {
         Ok(span) => Ok(Ok((span.start_byte(), span.end_byte()))),
         Err(LogicalSourceError::LogicalRange { .. }) => Ok(refused(19, 0)),
-        Err(LogicalSourceError::PhysicalSpan(SourceError::ReversedRange { start, end })) => {
-            Ok(Ok((start, end)))
-        }
+        Err(LogicalSourceError::PhysicalSpan(SourceError::ReversedRange { start, end })) => Ok(Ok((start, end))),
         Err(_) => Err(Inconsistent),
     }
 }

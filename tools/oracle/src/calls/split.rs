@@ -15,11 +15,7 @@ const BRACKETS_AND_ANGLES: [(char, char); 4] = [('(', ')'), ('[', ']'), ('{', '}
 type Items = Vec<Range<usize>>;
 
 pub fn split(text: &str, separator: char, angles: bool, room: usize) -> Checked<Outcome<Items>> {
-    let pairs: &[(char, char)] = if angles {
-        &BRACKETS_AND_ANGLES
-    } else {
-        &BRACKETS
-    };
+    let pairs: &[(char, char)] = if angles { &BRACKETS_AND_ANGLES } else { &BRACKETS };
     let published = split_top_level(text, separator, pairs, CommentStyle::Block);
     if separator == ',' && !angles {
         ensure(kind_of(&parse_variable_list(text)) == published.as_ref().map_err(list_error))?;
@@ -38,9 +34,7 @@ pub fn split(text: &str, separator: char, angles: bool, room: usize) -> Checked<
     Ok(walk.within(room))
 }
 
-fn kind_of<'a>(
-    list: &'a Result<Vec<&'a str>, VariableListError>,
-) -> Result<&'a Vec<&'a str>, VariableListError> {
+fn kind_of<'a>(list: &'a Result<Vec<&'a str>, VariableListError>) -> Result<&'a Vec<&'a str>, VariableListError> {
     list.as_ref().map_err(|error| *error)
 }
 
@@ -99,8 +93,7 @@ impl Walk {
             (Err(Refusal { number, place }), Err(error)) => match error {
                 DelimiterError::EmptyEntry { .. } => *number == 15,
                 DelimiterError::UnclosedDelimiter { .. } => *number == 18,
-                DelimiterError::UnmatchedClosing { offset, .. }
-                | DelimiterError::MismatchedClosing { offset, .. } => {
+                DelimiterError::UnmatchedClosing { offset, .. } | DelimiterError::MismatchedClosing { offset, .. } => {
                     *number == 17 && place == offset
                 }
                 _ => false,
@@ -163,13 +156,7 @@ impl Walker<'_> {
         self.finish_segment(self.text.len())
     }
 
-    fn bracket(
-        &mut self,
-        place: usize,
-        character: char,
-        before: Option<char>,
-        after: Option<char>,
-    ) -> Outcome<()> {
+    fn bracket(&mut self, place: usize, character: char, before: Option<char>, after: Option<char>) -> Outcome<()> {
         let angle_on_top = self.open.last() == Some(&'>');
         match character {
             '(' => self.push(place, ')'),

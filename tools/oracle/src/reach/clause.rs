@@ -3,9 +3,6 @@
 use super::{ClauseRegistry, LocatedClause};
 use nom::IResult;
 
-pub(crate) fn parse_clause<'a>(
-    registry: &ClauseRegistry,
-    input: &'a str,
-) -> IResult<&'a str, LocatedClause<'a>> {
+pub(crate) fn parse_clause<'a>(registry: &ClauseRegistry, input: &'a str) -> IResult<&'a str, LocatedClause<'a>> {
     registry.parse_clause(input)
 }

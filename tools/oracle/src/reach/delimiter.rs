@@ -2,10 +2,7 @@
 
 use super::{CommentStyle, DelimiterError};
 
-pub(crate) fn code_chars(
-    text: &str,
-    style: CommentStyle,
-) -> Result<Vec<(usize, char)>, DelimiterError> {
+pub(crate) fn code_chars(text: &str, style: CommentStyle) -> Result<Vec<(usize, char)>, DelimiterError> {
     super::code_chars(text, style)
 }
 
