@@ -1,0 +1,16 @@
+// The request `book BOOK`.
+use crate::print::Out;
+use crate::words::only_bytes;
+
+pub fn answer(line: &[u8], book: &mut [u8], buffer: &mut [u8], out: Out) -> Out {
+    let size = only_bytes(line, book);
+    let n = size.value;
+    if !size.good {
+        return out.bad_request(buffer);
+    }
+    answer_book(&book[0..n], buffer, out)
+}
+
+fn answer_book(book: &[u8], buffer: &mut [u8], out: Out) -> Out {
+    out.not_yet(buffer)
+}

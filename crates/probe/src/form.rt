@@ -1,0 +1,30 @@
+// The words LANG PREFIX TEXTSLOTS MAPSLOTS, with which two requests begin.
+use crate::words::choice_at;
+use crate::words::nth;
+use crate::words::slots_at;
+ghost use Prim.Native.Nat.{_≤_};
+
+// language: 0 for C, 1 for free form, 2 for fixed form; prefix: 0 for omp, 1 for acc.
+pub struct Form {
+    pub good: bool,
+    pub language: usize,
+    pub prefix: usize,
+    pub text: usize,
+    pub map: usize,
+}
+
+pub fn form_of(line: &[u8], most_text: usize, most_map: usize) -> Form
+    ensures { λ r. ⌜ (r .text ≤ «most_text») × (r .map ≤ «most_map») ⌝ }
+{
+    let language = choice_at(line, nth(line, 1), b"c free fixed");
+    let prefix = choice_at(line, nth(line, 2), b"omp acc");
+    let text = slots_at(line, nth(line, 3), most_text);
+    let map = slots_at(line, nth(line, 4), most_map);
+    Form {
+        good: language.good & prefix.good & text.good & map.good,
+        language: language.value,
+        prefix: prefix.value,
+        text: text.value,
+        map: map.value,
+    }
+}

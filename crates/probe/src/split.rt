@@ -1,0 +1,54 @@
+// The request `split SEP ANGLES SLOTS TEXT`.
+use crate::lent::fill_numbers;
+use crate::print::Out;
+use crate::words::choice_at;
+use crate::words::ends;
+use crate::words::hex_at;
+use crate::words::nth;
+use crate::words::slots_at;
+ghost use Prim.Native.Nat.{_≤_};
+
+// separator: 0 for the comma, 1 for the colon.
+pub struct SplitRequest {
+    pub good: bool,
+    pub separator: usize,
+    pub angles: bool,
+    pub slots: usize,
+}
+
+fn request(line: &[u8], most: usize) -> SplitRequest
+    ensures { λ r. ⌜ r .slots ≤ most ⌝ }
+{
+    let separator = choice_at(line, nth(line, 1), b"comma colon");
+    let angles = choice_at(line, nth(line, 2), b"0 1");
+    let slots = slots_at(line, nth(line, 3), most);
+    SplitRequest {
+        good: separator.good & angles.good & slots.good,
+        separator: separator.value,
+        angles: angles.value == 1,
+        slots: slots.value,
+    }
+}
+
+pub fn answer(line: &[u8], text: &mut [u8], items: &mut [u16], buffer: &mut [u8], out: Out) -> Out {
+    let word = nth(line, 4);
+    let size = hex_at(line, word, text);
+    let asked = request(line, items.len());
+    let n = size.value;
+    let slots = asked.slots;
+    if !(asked.good & size.good & ends(line, word)) {
+        return out.bad_request(buffer);
+    }
+    answer_split(&text[0..n], asked, &mut items[0..slots], buffer, out)
+}
+
+fn answer_split(
+    text: &[u8],
+    asked: SplitRequest,
+    items: &mut [u16],
+    buffer: &mut [u8],
+    out: Out,
+) -> Out {
+    fill_numbers(items);
+    out.not_yet(buffer).and_numbers(buffer, items)
+}
