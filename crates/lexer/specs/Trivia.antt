@@ -5,17 +5,19 @@ use mathlib.Core.Option.{Option, some, none}
 use mathlib.Core.List.{List, [], _∷_}
 use lib.ListN.{drop, getD}
 use lib.Dec.{eqb, ltb}
+use Rattle.ascii.specs.declared.Found.{Found}
+use Rattle.ascii.specs.declared.Found.the-variants.{At, Nothing}
 use Rattle.ascii.specs.Ascii.{isSpace}
 use Rattle.ascii.specs.Text.{upTo}
 use Rattle.delimiter.specs.Code.{blockEnd}
-use Rattle.lexer.specs.declared.Trivia.{Trivia}
-use Rattle.lexer.specs.declared.Trivia.the-variants.{Run, Open}
+use Rattle.lexer.specs.declared.Stretch.{Stretch}
+use Rattle.lexer.specs.declared.Stretch.the-variants.{Run, Open}
 use Rattle.lexer.specs.declared.Skipped.{Skipped}
 use Rattle.lexer.specs.declared.Skipped.the-variants.{Past, OpenAt}
 use Rattle.lexer.specs.Continuation.{breakC, breakF}
 
 -- a block comment with the two bytes that open it
-abbrev pub closed : Option ℕ → Trivia
+abbrev pub closed : Option ℕ → Stretch
 closed none = Open
 closed (some n) = Run (2 + n)
 
@@ -23,7 +25,7 @@ abbrev pub isLineFeed : ℕ → Bool
 isLineFeed b = eqb b 10
 
 -- `skip_space_and_comments`: what trivia of C a text begins with. A `//` comment ends at LF only.
-unfoldable pub triviaC : List ℕ → Trivia
+unfoldable pub triviaC : List ℕ → Stretch
 triviaC xs =
     cond (ltb 0 (breakC xs)) (Run (breakC xs))
     (cond (isSpace (getD xs 0 0)) (Run 1)
@@ -32,7 +34,7 @@ triviaC xs =
     (Run 0))))
 
 -- `skip_fortran_space_and_comments`: the same of Fortran. Every `!` begins a comment, `!$` too; it ends at LF only.
-unfoldable pub triviaF : List ℕ → Trivia
+unfoldable pub triviaF : List ℕ → Stretch
 triviaF xs =
     cond (ltb 0 (breakF xs)) (Run (breakF xs))
     (cond (isSpace (getD xs 0 0)) (Run 1)
@@ -40,7 +42,7 @@ triviaF xs =
     (Run 0)))
 
 -- "bit 0 ignore case and use Fortran trivia"
-abbrev pub triviaOf : Bool → List ℕ → Trivia
+abbrev pub triviaOf : Bool → List ℕ → Stretch
 triviaOf false xs = triviaC xs
 triviaOf true xs = triviaF xs
 
@@ -61,7 +63,12 @@ abbrev pub Inside : ℕ → ℕ → Skipped → Type 0
 Inside at n (Past p) = (at ≤ p) × (p ≤ n)
 Inside at n (OpenAt p) = (at ≤ p) × (p ≤ n)
 
--- trivia of a text of n bytes does not reach past its end
-abbrev pub Fits : ℕ → Trivia → Type 0
-Fits n (Run k) = k ≤ n
-Fits n Open = Unit {0}
+-- trivia at place at does not reach past n bytes
+abbrev pub Fits : ℕ → ℕ → Stretch → Type 0
+Fits at n (Run k) = at + k ≤ n
+Fits at n Open = Unit {0}
+
+-- a place that was found lies between two others
+abbrev pub Between : ℕ → ℕ → Found → Type 0
+Between from n (At i) = (from ≤ i) × (i ≤ n)
+Between from n Nothing = Unit {0}

@@ -1,13 +1,11 @@
 // Continuations of a physical line: the break of C, and Fortran's `&` with what goes of the next line.
 use ascii::ByteSet;
-
 ghost use mathlib.Core.Path.{_≡_};
 ghost use mathlib.Core.Bool.{true};
 ghost use Prim.Native.Nat.{_+_, _≤_};
 ghost use lib.ListN.{length, drop};
 ghost use Rattle.ascii.specs.Text.{begins, comparing};
 ghost use Rattle.lexer.specs.Continuation.{prefixBytes, breakC, marked as isMarked, sentinel as sentinelOf, isBoundary, sentinelEnded, sentinelAny, eol as eolOf, commentF, marker as markerOf, lead as leadOf, breakF};
-
 use super::Prefix;
 
 // The bytes of the break of C at a place: a backslash with LF or CR LF; 0 for none.
@@ -59,7 +57,11 @@ pub fn sentinel(text: &[u8], at: usize, prefix: Prefix) -> usize
     if !is_marked(text, at) {
         return 0;
     }
-    if prefix_at(text, at + 2, prefix, true) { 5 } else { 2 }
+    if prefix_at(text, at + 2, prefix, true) {
+        5
+    } else {
+        2
+    }
 }
 
 // Whether the text is over at a place, or a blank, `&` or an end of line stands there.

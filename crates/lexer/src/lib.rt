@@ -1,5 +1,6 @@
 // Continuations, sentinels and trivia of a directive line.
 pub mod continuation;
+pub mod trivia;
 
 // The language of a line, with the source form of Fortran.
 pub enum Language {
@@ -14,8 +15,8 @@ pub enum Prefix {
     Acc,
 }
 
-// What trivia a text begins with: a run of so many bytes, 0 for none, or a comment without an end.
-pub enum Trivia {
+// The stretch of trivia that a text begins with: a run of so many bytes, 0 for none, or a comment without an end.
+pub enum Stretch {
     Run(usize),
     Open,
 }

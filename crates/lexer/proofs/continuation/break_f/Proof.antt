@@ -23,17 +23,27 @@ returns-2 : tie.Need-returns-2
 returns-2 c =
     let r : tie.After-eol = c .before in
     let b = r .before .before .before in
-    let a = b .before .before .before .args in
-    (simp (break-f-at (a .text .now) (a .at) _ _ (sym (b .before .byte-at .ensures) ∙ b .if1 .left) (r .before .before .run-end .ensures .0) (r .before .comment-end .ensures .0),
-    sym (r .eol .ensures .0) ∙ c .if2 .taken), search needs)
+    let a = b .before .before .before .args in (
+      simp (
+        break-f-at (a .text .now) (a .at) _ _ (sym (b .before .byte-at .ensures) ∙ b .if1 .left) (r .before .before .run-end .ensures .0) (r .before .comment-end .ensures .0),
+        sym (r .eol .ensures .0) ∙ c .if2 .taken,
+      ),
+      search needs,
+    )
 
 returns-3 : tie.Need-returns-3
 returns-3 c =
     let r : tie.After-eol = c .before .before in
     let b = r .before .before .before in
-    let a = b .before .before .before .args in
-    (simp (break-f-at (a .text .now) (a .at) _ _ (sym (b .before .byte-at .ensures) ∙ b .if1 .left) (r .before .before .run-end .ensures .0) (r .before .comment-end .ensures .0),
-    ← (r .eol .ensures .0), lt-ltb 0 (r .eol .result) (omega arith), c .lead .ensures .0), omega arith)
+    let a = b .before .before .before .args in (
+      simp (
+        break-f-at (a .text .now) (a .at) _ _ (sym (b .before .byte-at .ensures) ∙ b .if1 .left) (r .before .before .run-end .ensures .0) (r .before .comment-end .ensures .0),
+        ← (r .eol .ensures .0),
+        lt-ltb 0 (r .eol .result) (omega arith),
+        c .lead .ensures .0,
+      ),
+      omega arith,
+    )
 
 pub break-f-spec : {M : Type 1} → statement M
 break-f-spec =

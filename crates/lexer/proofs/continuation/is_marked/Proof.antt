@@ -19,8 +19,11 @@ returns c =
     let b = c .before .byte-at2 in
     let args = c .before .before .before .before .args in (
       simp (c .fold .ensures, a .ensures, b .ensures, getD-drop, add-zero),
-      λ e. omega (arith, inside (args .text .now) _ 36 (omega arith) (sym (b .ensures)
-      ∙ eqb-true (b .result) 36 (and-right (eqb (a .result) 33 || eqb (c .fold .result) 99 || eqb (a .result) 42) (eqb (b .result) 36) e))),
+      λ e. omega (
+        arith,
+        inside (args .text .now) _ 36 (omega arith) (sym (b .ensures)
+            ∙ eqb-true (b .result) 36 (and-right (eqb (a .result) 33 || eqb (c .fold .result) 99 || eqb (a .result) 42) (eqb (b .result) 36) e)),
+      ),
     )
 
 pub is-marked-spec : {M : Type 1} → statement M

@@ -28,9 +28,10 @@ returns-2 : tie.Need-returns-2
 unfolding sentinel
 returns-2 c =
     let a = c .before .before .before .before .before .args in
-    let e = sym (c .before .prefix-at .ensures) ∙ c .if2 .taken in
-    (simp (yes (c .before .before), drop-drop, e),
-    omega (arith, room (c .before .before), begins-fits fold (prefixBytes (a .prefix)) (drop (a .at + 2) (a .text .now)) e, prefix-length (a .prefix), length-drop (a .at + 2) (a .text .now)))
+    let e = sym (c .before .prefix-at .ensures) ∙ c .if2 .taken in (
+      simp (yes (c .before .before), drop-drop, e),
+      omega (arith, room (c .before .before), begins-fits fold (prefixBytes (a .prefix)) (drop (a .at + 2) (a .text .now)) e, prefix-length (a .prefix), length-drop (a .at + 2) (a .text .now)),
+    )
 
 returns-3 : tie.Need-returns-3
 unfolding sentinel
