@@ -11,7 +11,7 @@ use lib.Seq.{getD-drop, drop-drop}
 use lib.Dec.{eqb, ltb}
 use Rattle.ascii.specs.Ascii.{isBlank}
 use Rattle.ascii.specs.Text.{leading}
-use Rattle.lexer.specs.Continuation.{sentinelAny, eol, commentF, marker, lead, ended, tailed, breakF}
+use Rattle.lexer.specs.Continuation.{sentinelAny, eol, commentF, marker, lead, breakF}
 
 module _ (s : List ℕ) (at : ℕ) where
   pub marker-at : (end : ℕ) → end ≡ at + leading isBlank (drop at s) → marker (drop at s) ≡ cond (eqb (getD s end 0) 38) (end - at + 1) 0

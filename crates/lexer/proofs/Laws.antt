@@ -1,7 +1,7 @@
 -- Laws of texts at a place, in the terms of the code that reads there.
 -- Assumes nothing.
 use mathlib.Core.Path.{_≡_, refl, sym}
-use mathlib.Core.Bool.{true, false, true≢false}
+use mathlib.Core.Bool.{true, true≢false}
 use mathlib.Core.List.{List, [], _∷_}
 use Prim.Native.Nat.{ℕ, zero, suc, _<_, _≤_, suc-le-suc}
 use native.Mathlib.Omega.{arith}

@@ -6,6 +6,8 @@ use lib.ListN.{length, drop, getD}
 use lib.Dec.{eqb, ltb}
 use Rattle.ascii.specs.Ascii.{isBlank, isEol, fold}
 use Rattle.ascii.specs.Text.{bytes, starts, leading, begins}
+use Rattle.lexer.specs.declared.Language.{Language}
+use Rattle.lexer.specs.declared.Language.the-variants.{C, FortranFree, FortranFixed}
 use Rattle.lexer.specs.declared.Prefix.{Prefix}
 use Rattle.lexer.specs.declared.Prefix.the-variants.{Omp, Acc}
 
@@ -28,6 +30,12 @@ marked xs = (eqb (getD xs 0 0) 33 || eqb (fold (getD xs 0 0)) 99 || eqb (getD xs
 -- `!$`, `c$` or `*$` with the prefix behind it, or alone
 unfoldable pub sentinel : Prefix → List ℕ → ℕ
 sentinel p xs = cond (marked xs) (cond (begins fold (prefixBytes p) (drop 2 xs)) 5 2) 0
+
+-- the first sentinel of a line: `!$` alone in free form (`lex_fortran_free_sentinel_with_prefix`), all three in fixed form; C has none
+abbrev pub openingSentinel : Language → Prefix → List ℕ → ℕ
+openingSentinel C p xs = 0
+openingSentinel FortranFree p xs = cond (starts 33 xs) (sentinel p xs) 0
+openingSentinel FortranFixed p xs = sentinel p xs
 
 -- the text is over, or goes on with a blank, `&` or an end of line
 abbrev pub isBoundary : List ℕ → Bool

@@ -1,2 +1,3 @@
 pub mod Continuation
 pub mod Trivia
+pub mod Steps

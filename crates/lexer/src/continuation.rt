@@ -5,7 +5,8 @@ ghost use mathlib.Core.Bool.{true};
 ghost use Prim.Native.Nat.{_+_, _≤_};
 ghost use lib.ListN.{length, drop};
 ghost use Rattle.ascii.specs.Text.{begins, comparing};
-ghost use Rattle.lexer.specs.Continuation.{prefixBytes, breakC, marked as isMarked, sentinel as sentinelOf, isBoundary, sentinelEnded, sentinelAny, eol as eolOf, commentF, marker as markerOf, lead as leadOf, breakF};
+ghost use Rattle.lexer.specs.Continuation.{prefixBytes, breakC, marked as isMarked, sentinel as sentinelOf, openingSentinel, isBoundary, sentinelEnded, sentinelAny, eol as eolOf, commentF, marker as markerOf, lead as leadOf, breakF};
+use super::Language;
 use super::Prefix;
 
 // The bytes of the break of C at a place: a backslash with LF or CR LF; 0 for none.
@@ -61,6 +62,24 @@ pub fn sentinel(text: &[u8], at: usize, prefix: Prefix) -> usize
         5
     } else {
         2
+    }
+}
+
+// The bytes of the sentinel that a line begins with at a place, in its language; 0 for none.
+pub fn opening_sentinel(text: &[u8], at: usize, language: Language, prefix: Prefix) -> usize
+    requires { ⌜ at ≤ length (now text) ⌝ }
+    ensures { λ r. ⌜ r ≡ openingSentinel language prefix (drop at (now (text .entry))) ⌝ }
+    ensures { λ r. ⌜ at + r ≤ length (now (text .entry)) ⌝ }
+{
+    match language {
+        Language::C => 0,
+        Language::FortranFree => {
+            if ascii::byte_at(text, at) != 33 {
+                return 0;
+            }
+            sentinel(text, at, prefix)
+        }
+        Language::FortranFixed => sentinel(text, at, prefix),
     }
 }
 

@@ -4,7 +4,6 @@ use mathlib.Core.Bool.{Bool, cond, _||_}
 use mathlib.Core.List.{List}
 use lib.ListN.{length, getD}
 use lib.Dec.{ltb}
-use Rattle.ascii.specs.Text.{firstHigh}
 use Rattle.refusal.specs.Answer.{Answer, given, refused, refusedBy, unlessFault, admitted, maxLength, slots}
 use Rattle.lexer.specs.declared.Language.{Language}
 use Rattle.lexer.specs.declared.Prefix.{Prefix}

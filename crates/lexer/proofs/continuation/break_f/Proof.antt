@@ -1,6 +1,6 @@
 -- `lexer::continuation::break_f` meets its contract: blanks, comment and end of line in a row, each from where the last ended.
 -- Assumes nothing.
-use mathlib.Core.Path.{_≡_, sym, _∙_}
+use mathlib.Core.Path.{sym, _∙_}
 use native.Mathlib.Nat.{add-zero}
 use native.Mathlib.Omega.{arith}
 use lib.Seq.{getD-drop}

@@ -1,8 +1,7 @@
 -- `lexer::continuation::comment_end` meets its contract: without `!` it stays, with it the run of the line's bytes ends it.
 -- Assumes nothing.
-use mathlib.Core.Path.{_≡_, sym, ap, _∙_}
+use mathlib.Core.Path.{sym, _∙_}
 use native.Mathlib.Nat.{add-zero}
-use lib.Dec.{eqb}
 use lib.Seq.{getD-drop}
 use borrow.Author.Needs.{needs}
 use borrow.Author.Tests.{ne-eqb}

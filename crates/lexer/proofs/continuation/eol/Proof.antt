@@ -8,7 +8,7 @@ use lib.ListN.{drop}
 use lib.Dec.{eqb}
 use lib.Seq.{getD-drop}
 use borrow.Author.Needs.{needs}
-use borrow.Author.Tests.{eq-eqb, ne-eqb, eqb-true}
+use borrow.Author.Tests.{ne-eqb}
 use Rattle.lexer.specs.Continuation.{eol}
 use Rattle.lexer.proofs.Laws.{inside}
 use Rattle.lexer.proofs.continuation.eol.Statement.{statement}

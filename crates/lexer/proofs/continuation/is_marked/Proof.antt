@@ -1,6 +1,6 @@
 -- `lexer::continuation::is_marked` meets its contract: the flag is `marked` of the two bytes read, and the second is not 0.
 -- Assumes nothing.
-use mathlib.Core.Path.{_≡_, sym, _∙_}
+use mathlib.Core.Path.{sym, _∙_}
 use mathlib.Core.Bool.{_||_}
 use native.Mathlib.Nat.{add-zero}
 use native.Mathlib.Omega.{arith}

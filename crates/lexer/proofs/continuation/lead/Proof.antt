@@ -1,6 +1,6 @@
 -- `lexer::continuation::lead` meets its contract: the sentinel is sought behind the blanks, and `&` behind it or behind the blanks.
 -- Assumes nothing.
-use mathlib.Core.Path.{_≡_, sym, _∙_}
+use mathlib.Core.Path.{sym, _∙_}
 use native.Mathlib.Omega.{arith}
 use borrow.Author.Needs.{needs}
 use borrow.Author.Tests.{lt-ltb}

@@ -1,6 +1,6 @@
 -- `lexer::continuation::sentinel_ended` meets its contract: the boundary is asked for at the sentinel's end.
 -- Assumes nothing.
-use mathlib.Core.Path.{_≡_, sym, _∙_}
+use mathlib.Core.Path.{sym, _∙_}
 use lib.Seq.{drop-drop}
 use borrow.Author.Needs.{needs}
 use Rattle.lexer.specs.Continuation.{sentinelEnded}

@@ -1,7 +1,7 @@
 -- `lexer::trivia::skip` meets its contract: skipping from each place that the loop comes to gives what it gives from the first.
 -- Assumes nothing.
 use mathlib.Core.Path.{_≡_, refl, sym, subst, _∙_}
-use Prim.Native.Nat.{_+_, _-_, _≤_}
+use Prim.Native.Nat.{_-_, _≤_}
 use native.Mathlib.Omega.{arith}
 use lib.ListN.{length, drop}
 use borrow.Author.Needs.{needs}

@@ -1,0 +1,48 @@
+-- Steps of a cursor: "a place in the text that moves forward and hands itself back, or a refusal".
+use Prim.Native.Nat.{ℕ, _+_, _≤_}
+use mathlib.Core.Bool.{Bool, cond}
+use mathlib.Core.List.{List}
+use lib.ListN.{length, drop}
+use lib.Dec.{eqb}
+use Rattle.ascii.specs.Ascii.{isWord, exactly}
+use Rattle.ascii.specs.Text.{leading, begins}
+use Rattle.refusal.specs.Answer.{Answer, given, refused, refusedBy}
+use Rattle.lexer.specs.declared.Step.{Step}
+use Rattle.lexer.specs.declared.Step.the-variants.{At, Refused}
+use Rattle.lexer.specs.declared.Skipped.{Skipped}
+use Rattle.lexer.specs.declared.Skipped.the-variants.{Past, OpenAt}
+use Rattle.lexer.specs.Trivia.{skip}
+
+-- the declared answer of a step
+abbrev pub stepOf : Step → Answer ℕ
+stepOf (At c) = given (c .at)
+stepOf (Refused r) = refusedBy r
+
+-- trivia, perhaps none: row 8, "comment unclosed in trivia"
+abbrev pub passed : Skipped → Answer ℕ
+passed (Past p) = given p
+passed (OpenAt p) = refused 8 p
+
+abbrev pub triviaStep : Bool → List ℕ → ℕ → Answer ℕ
+triviaStep f text at = passed (skip f text at)
+
+-- trivia of at least one byte (`skip_space1_and_comments`): row 7 where there is none, "where the failing step began"
+abbrev pub passedSome : ℕ → Skipped → Answer ℕ
+passedSome at (Past p) = cond (eqb p at) (refused 7 at) (given p)
+passedSome at (OpenAt p) = refused 8 p
+
+abbrev pub someTriviaStep : Bool → List ℕ → ℕ → Answer ℕ
+someTriviaStep f text at = passedSome at (skip f text at)
+
+-- a fixed word (nom's `tag`): row 7 where it is not
+abbrev pub wordStep : List ℕ → List ℕ → ℕ → Answer ℕ
+wordStep word text at = cond (begins exactly word (drop at text)) (given (at + length word)) (refused 7 at)
+
+-- `lex_identifier`, nom's `take_while1`: the end of the longest run of word bytes, the place itself where there is none
+abbrev pub wordEnd : List ℕ → ℕ → ℕ
+wordEnd text at = at + leading isWord (drop at text)
+
+-- a step goes forward, and stays within n bytes
+abbrev pub Forward : ℕ → ℕ → Step → Type 0
+Forward at n (At c) = (at ≤ c .at) × (c .at ≤ n)
+Forward at n (Refused r) = Unit {0}
