@@ -10,7 +10,7 @@ ghost use Prim.Native.Nat.{_-_};
 ghost use Rattle.ascii.specs.Text.{foundAt};
 ghost use Rattle.rulebook.specs.Format.{ruleFor, isKnown, isHeader, isLength, clausesLeft, directivesLeft, whenGood, headerStep, nameStep, wordStep, stepped, endedAt, badFrom};
 
-fn wide(b: u8) -> usize
+pub fn wide(b: u8) -> usize
     ensures { λ r. ⌜ r ≡ b ⌝ }
 {
     b as usize

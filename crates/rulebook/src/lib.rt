@@ -1,5 +1,6 @@
 // The book: a file of directive names, clause names and rules.
 mod format;
+pub mod lookup;
 
 use refusal::Refusal;
 

@@ -1,0 +1,117 @@
+// Reading a book whose form is right: its header, its entries, and names looked up among them.
+use crate::ClauseEntry;
+use crate::ClauseRule;
+use crate::Entries;
+use crate::EntryFound;
+use crate::Header;
+use crate::RuleByte;
+use crate::format::rule_for;
+use crate::format::wide;
+use ascii::Range;
+use ascii::begins_at;
+ghost use mathlib.Core.Path.{_≡_};
+ghost use Prim.Native.Nat.{_-_, _≤_};
+ghost use lib.ListN.{length, take, drop};
+ghost use Rattle.ascii.specs.Text.{sameBy, comparing};
+ghost use Rattle.rulebook.specs.Format.{ruleFor};
+ghost use Rattle.rulebook.specs.Book.{ruleSaid, nameAt, placeAfter, Laid, entriesIn, LaidIn, headerOf, bookOf};
+ghost use Rattle.rulebook.specs.Check.{HasForm};
+ghost use Rattle.rulebook.specs.Lookup.{findFrom, clauseEntry};
+
+// Whether two names are equal, with case ignored or not.
+pub fn same(a: &[u8], b: &[u8], ignore_case: bool) -> bool
+    ensures { λ r. ⌜ r ≡ sameBy (comparing «ignore_case») (now (a .entry)) (now (b .entry)) ⌝ }
+{
+    if a.len() != b.len() {
+        return false;
+    }
+    begins_at(b, 0, a, ignore_case)
+}
+
+// The rule that a byte of a book says.
+fn rule_said(b: u8) -> ClauseRule
+    ensures { λ r. ⌜ r ≡ ruleSaid (ruleFor b) ⌝ }
+{
+    match rule_for(b) {
+        RuleByte::Known(rule) => rule,
+        RuleByte::Unknown => ClauseRule::Unsupported,
+    }
+}
+
+// Where the name of the entry at a place stands; the next entry follows it.
+pub fn name_at(book: &[u8], lead: usize, at: usize) -> Range
+    requires { ⌜ nameAt lead at (now book) .end ≤ length (now book) ⌝ }
+    ensures { λ r. ⌜ r ≡ nameAt lead at (now (book .entry)) ⌝ }
+{
+    let place = at + lead;
+    let length = wide(book[place]);
+    let start = place + 1;
+    Range {
+        start,
+        end: start + length,
+    }
+}
+
+// The place after the entries.
+fn entries_end(book: &[u8], entries: Entries) -> usize
+    requires { ⌜ LaidIn entries (now book) ⌝ }
+    ensures { λ r. ⌜ r ≡ placeAfter (entries .lead) (entries .count) (entries .first) (now (book .entry)) ⌝ }
+{
+    let lead = entries.lead;
+    let mut at = entries.first;
+    let mut left = entries.count;
+    while 0 < left {
+        let name = name_at(book, lead, at);
+        at = name.end;
+        left -= 1;
+    }
+    at
+}
+
+// The header, once the book's form is right.
+pub fn read_header(book: &[u8]) -> Header
+    requires { ⌜ HasForm (now book) ⌝ }
+    ensures { λ r. ⌜ r ≡ headerOf (now (book .entry)) ⌝ }
+{
+    let flags = book[5];
+    let rule = rule_said(book[6]);
+    let directives = Entries {
+        lead: 0,
+        first: 9,
+        count: wide(book[7]),
+    };
+    let clauses = Entries {
+        lead: 1,
+        first: entries_end(book, directives),
+        count: wide(book[8]),
+    };
+    Header {
+        ignores_case: flags % 2 == 1,
+        optional_blanks: flags / 2 % 2 == 1,
+        default_rule: rule,
+        directives,
+        clauses,
+    }
+}
+
+// The first of the entries that has a name.
+pub fn find_entry(book: &[u8], entries: Entries, name: &[u8], ignore_case: bool) -> EntryFound
+    requires { ⌜ LaidIn entries (now book) ⌝ }
+    ensures { λ r. ⌜ r ≡ findFrom (comparing «ignore_case») 0 (now (name .entry)) (entriesIn entries (now (book .entry))) ⌝ }
+{
+    let lead = entries.lead;
+    let count = entries.count;
+    let mut at = entries.first;
+    let mut i = 0;
+    while i < count {
+        let range = name_at(book, lead, at);
+        let start = range.start;
+        let end = range.end;
+        if same(&book[start..end], name, ignore_case) {
+            return EntryFound::At(i, at);
+        }
+        at = end;
+        i += 1;
+    }
+    EntryFound::Nothing
+}
