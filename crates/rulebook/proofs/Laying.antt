@@ -1,15 +1,14 @@
 -- Laws of entries that lie inside a book: the next one, one more at the end, fewer of them; and what is looked up among them.
 -- A law about a next entry speaks of n entries, m + 1 of them, and of the range r of the first one's name. Assumes nothing.
-use mathlib.Core.Path.{_≡_, refl, sym, ap, _∙_}
-use mathlib.Core.Bool.{Bool, true, false, cond}
+use mathlib.Core.Path.{_≡_, refl}
+use mathlib.Core.Bool.{true, false}
 use mathlib.Core.List.{List, [], _∷_, _++_}
-use Prim.Native.Nat.{ℕ, zero, suc, _+_, _-_, _<_, _≤_}
+use Prim.Native.Nat.{ℕ, zero, suc, _+_, _<_, _≤_}
 use native.Mathlib.Numerals.{add-one}
 use native.Mathlib.Omega.{arith}
-use lib.ListN.{length, getD}
+use lib.ListN.{length}
 use Rattle.ascii.specs.declared.Range.{Range}
 use Rattle.ascii.specs.Text.{sameBy, part}
-use Rattle.rulebook.specs.declared.EntryFound.{EntryFound}
 use Rattle.rulebook.specs.declared.EntryFound.the-variants.{At, Nothing}
 use Rattle.rulebook.specs.Book.{nameAt, entryAt, entriesFrom, placeAfter, Laid}
 use Rattle.rulebook.specs.Lookup.{findFrom}

@@ -1,8 +1,14 @@
 // The book: a file of directive names, clause names and rules.
 mod format;
 pub mod lookup;
+mod repeats;
 
+use ascii::Found;
+use refusal::Reason;
 use refusal::Refusal;
+ghost use mathlib.Core.Path.{_≡_};
+ghost use Rattle.ascii.specs.Text.{foundAt};
+ghost use Rattle.rulebook.specs.Check.{bookFault, bookCall, bookGives};
 
 // What a clause may look like.
 pub enum ClauseRule {
@@ -80,4 +86,27 @@ pub struct ClauseEntry {
 pub enum BookAnswer {
     Valid,
     Refused(Refusal),
+}
+
+// The first fault of a book: a bad byte, its end if it is cut, else a repeat.
+fn book_fault(book: &[u8]) -> Found
+    ensures { λ r. ⌜ foundAt r ≡ bookFault (now (book .entry)) ⌝ }
+{
+    match format::first_bad(book) {
+        Found::At(place) => Found::At(place),
+        Found::Nothing => repeats::first_repeat(book),
+    }
+}
+
+// Whether a book is valid.
+pub fn check_book(book: &[u8]) -> BookAnswer
+    ensures { λ r. ⌜ bookGives r ≡ bookCall (now (book .entry)) ⌝ }
+{
+    match book_fault(book) {
+        Found::At(place) => BookAnswer::Refused(Refusal {
+            reason: Reason::WrongBook,
+            place,
+        }),
+        Found::Nothing => BookAnswer::Valid,
+    }
 }

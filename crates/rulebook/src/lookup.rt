@@ -115,3 +115,29 @@ pub fn find_entry(book: &[u8], entries: Entries, name: &[u8], ignore_case: bool)
     }
     EntryFound::Nothing
 }
+
+// The entry of a clause's name, and its rule.
+pub fn find_clause(
+    book: &[u8],
+    header: Header,
+    text: &[u8],
+    start: usize,
+    end: usize,
+) -> ClauseEntry
+    requires { ⌜ HasForm (now book) ⌝ }
+    requires { ⌜ header ≡ headerOf (now book) ⌝ }
+    requires { ⌜ (start ≤ end) × (end ≤ length (now text)) ⌝ }
+    ensures { λ r. ⌜ r ≡ clauseEntry (bookOf (now (book .entry))) (take (end - start) (drop start (now (text .entry)))) ⌝ }
+{
+    let clauses = header.clauses;
+    match find_entry(book, clauses, &text[start..end], header.ignores_case) {
+        EntryFound::At(i, at) => ClauseEntry {
+            index: i as u16,
+            rule: rule_said(book[at]),
+        },
+        EntryFound::Nothing => {
+            let rule = header.default_rule;
+            ClauseEntry { index: 65535, rule }
+        }
+    }
+}

@@ -1,6 +1,5 @@
 -- `rulebook::format::clauses_left` meets its contract: a count that is not 0 is one more than its predecessor.
 -- Assumes nothing.
-use mathlib.Core.Path.{sym}
 use borrow.Author.Needs.{needs}
 use Rattle.rulebook.proofs.Steps.{clauses-more}
 use Rattle.rulebook.proofs.format.clauses_left.Statement.{statement}

@@ -1,8 +1,7 @@
 -- `rulebook::format::is_header` meets its contract: the arms are the cases of the definition.
 -- Assumes nothing.
-use mathlib.Core.Path.{sym, _∙_}
 use borrow.Author.Needs.{needs}
-use borrow.Author.Tests.{lt-ltb, le-ltb, eq-eqb, ne-eqb}
+use borrow.Author.Tests.{lt-ltb, le-ltb, ne-eqb}
 use Rattle.rulebook.proofs.format.is_header.Statement.{statement}
 use Rattle.rulebook.proofs.format.is_header.Tie as tie
 

@@ -3,7 +3,6 @@
 use mathlib.Core.Path.{_≡_, refl, sym, _∙_}
 use Prim.Native.Nat.{_+_, _-_}
 use native.Mathlib.Omega.{arith}
-use borrow.Author.Needs.{needs}
 use Rattle.rulebook.specs.Book.{Laid, placeAfter}
 use Rattle.rulebook.proofs.Laying.{laid-name, laid-next, place-none, place-next}
 use Rattle.rulebook.proofs.lookup.entries_end.Statement.{statement}

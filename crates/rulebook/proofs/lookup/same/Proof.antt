@@ -1,6 +1,6 @@
 -- `rulebook::lookup::same` meets its contract: names of one length are equal where one begins with the other.
 -- Assumes nothing.
-use mathlib.Core.Path.{_∙_, sym}
+use mathlib.Core.Path.{_∙_}
 use borrow.Author.Needs.{needs}
 use Rattle.rulebook.proofs.Names.{same-begins, same-lengths}
 use Rattle.rulebook.proofs.lookup.same.Statement.{statement}

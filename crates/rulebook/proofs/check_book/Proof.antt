@@ -1,0 +1,19 @@
+-- `rulebook::check_book` meets its contract: the fault of the book is refused with number 4.
+-- Assumes nothing.
+use mathlib.Core.Path.{sym, ap, _∙_}
+use borrow.Author.Needs.{needs}
+use Rattle.ascii.specs.Text.{foundAt}
+use Rattle.rulebook.specs.Check.{bookCall}
+use Rattle.rulebook.proofs.check_book.Statement.{statement}
+use Rattle.rulebook.proofs.check_book.Tie as tie
+
+pub check-book-spec : {M : Type 1} → statement M
+unfolding bookCall
+check-book-spec =
+    tie.close
+    (tie.spec
+    (λ c κs. search needs)
+    (λ c. search needs)
+    (λ c. search needs)
+    (λ c. rw (sym (c .before .before .before .book-fault .ensures) ∙ ap foundAt (c .before .place .given .1)))
+    (λ c. rw (sym (c .before .before .book-fault .ensures) ∙ ap foundAt (c .enum-told .given .1))))
