@@ -1,3 +1,3 @@
 pub mod Code
+pub mod Bracket
 pub mod Matching
-pub mod Split

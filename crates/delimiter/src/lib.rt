@@ -1,4 +1,8 @@
 // Brackets, quotes and comments: the code bytes of a text, the matching parenthesis, the split at the top level.
+pub mod brackets;
+pub mod code;
+pub mod matching;
+
 use refusal::Refusal;
 
 // Which comments are invisible besides block comments.
@@ -11,12 +15,52 @@ pub enum CommentStyle {
     Fortran,
 }
 
+// Where a literal or comment ends: its last byte stands before a place, or it has no end.
+pub enum End {
+    Before(usize),
+    Never,
+}
+
 // What a text has at a place: a byte of code, a run of so many invisible bytes, or a literal or comment without an end.
 pub enum Piece {
     Code,
     Hidden(usize),
     OpenQuote,
     OpenComment,
+}
+
+// The first literal or comment without an end, with its place.
+pub enum Unclosed {
+    Nothing,
+    Quote(usize),
+    Comment(usize),
+}
+
+// The kinds of brackets.
+pub enum Bracket {
+    Round,
+    Square,
+    Curly,
+    Angle,
+}
+
+// The open brackets: the closing byte of each, the outermost first, and how many they are.
+pub struct OpenBrackets {
+    pub closing: [u8; 256],
+    pub depth: usize,
+}
+
+// What a byte of code does to the open brackets: it leaves some, it closes none that it could, it is the 257th.
+pub enum Effect {
+    Held,
+    Wrong,
+    Deep,
+}
+
+// An effect, and the brackets that are open where it leaves some.
+pub struct Stepped {
+    pub effect: Effect,
+    pub open: OpenBrackets,
 }
 
 // Where an open parenthesis is closed: at a place, nowhere, or not found before the 257th bracket is open, at its place.

@@ -1,0 +1,47 @@
+-- `code::block_end` meets its contract: a turn passes over one byte, and the end that is left to find stays the same.
+-- Assumes nothing.
+use mathlib.Core.Path.{_≡_, refl, sym, _∙_}
+use Prim.Native.Nat.{_-_, _≤_}
+use native.Mathlib.Omega.{arith}
+use borrow.Author.Needs.{needs}
+use lib.ListN.{length, drop}
+use Rattle.delimiter.specs.Code.{more, blockEnd}
+use Rattle.delimiter.proofs.Laws.{block-closed, block-plain, block-none, block-within}
+use Rattle.delimiter.proofs.code.block_end.Statement.{statement}
+use Rattle.delimiter.proofs.code.block_end.Tie as tie
+
+abbrev Inv-loop : tie.InvT-loop
+Inv-loop text from i₀ i = (from ≤ i) × (i ≤ length text) × (more i (blockEnd (drop i text)) ≡ more from (blockEnd (drop from text)))
+
+abbrev μ-loop : tie.MeasureT-loop
+μ-loop text from i₀ i = length text - i
+
+returns : tie.Need-returns Inv-loop μ-loop
+returns c =
+    let l : tie.In-loop Inv-loop μ-loop = c .before .before .before in
+    let e = rw (c .before .before .byte-at .ensures) at (c .if1 .taken) in
+    let w = block-within (l .before .before .before .args .text .now) (l .before .loop .i) e in
+    (sym (block-closed _ _ (l .loop-test .taken) e) ∙ l .before .loop .inv .2, omega arith)
+
+loop-again : tie.Need-loop-again Inv-loop μ-loop
+loop-again c =
+    let l : tie.In-loop Inv-loop μ-loop = c .before .before .before in
+    let e = rw (c .before .before .byte-at .ensures) at (c .if1 .left) in
+    (omega arith, omega arith, sym (block-plain _ _ (l .loop-test .taken) e) ∙ l .before .loop .inv .2)
+
+pub block-end-spec : {M : Type 1} → statement M
+block-end-spec =
+    tie.close
+    (tie.spec
+    Inv-loop
+    μ-loop
+    (λ c. (omega arith, omega arith, refl))
+    (λ c. omega arith)
+    (λ c κs. search needs)
+    (λ c. omega arith)
+    (λ c. omega arith)
+    returns
+    (λ c. omega arith)
+    (λ c. omega arith)
+    loop-again
+    (λ c. (sym (block-none _ _ (c .loop-test .left)) ∙ c .before .loop .inv .2, tt)))

@@ -1,0 +1,201 @@
+// The kinds of brackets with their bytes, and the stack of open ones by value, which matching and splitting share.
+use crate::Bracket;
+use crate::Effect;
+use crate::OpenBrackets;
+use crate::Stepped;
+ghost use mathlib.Core.Path.{_≡_};
+ghost use mathlib.Core.List.{[], _∷_};
+ghost use Prim.Native.Nat.{_<_};
+ghost use lib.ListN.{length, drop};
+ghost use Rattle.delimiter.specs.Bracket.{openingOf, closingOf, isOpening, isClosing, isBracket, kindOf, closer, isEmpty, topIs, push, close, held, taken, openOf, bracketsOf};
+
+impl Bracket {
+    pub const ROUND_OPEN: u8 = 40;
+
+    pub const ROUND_CLOSE: u8 = 41;
+
+    pub const SQUARE_OPEN: u8 = 91;
+
+    pub const SQUARE_CLOSE: u8 = 93;
+
+    pub const CURLY_OPEN: u8 = 123;
+
+    pub const CURLY_CLOSE: u8 = 125;
+
+    pub const ANGLE_OPEN: u8 = 60;
+
+    pub const ANGLE_CLOSE: u8 = 62;
+
+    pub fn opening(self) -> u8
+        ensures { λ r. ⌜ r ≡ openingOf self ⌝ }
+    {
+        match self {
+            Bracket::Round => Bracket::ROUND_OPEN,
+            Bracket::Square => Bracket::SQUARE_OPEN,
+            Bracket::Curly => Bracket::CURLY_OPEN,
+            Bracket::Angle => Bracket::ANGLE_OPEN,
+        }
+    }
+
+    pub fn closing(self) -> u8
+        ensures { λ r. ⌜ r ≡ closingOf self ⌝ }
+    {
+        match self {
+            Bracket::Round => Bracket::ROUND_CLOSE,
+            Bracket::Square => Bracket::SQUARE_CLOSE,
+            Bracket::Curly => Bracket::CURLY_CLOSE,
+            Bracket::Angle => Bracket::ANGLE_CLOSE,
+        }
+    }
+
+    // The kind of an opening bracket.
+    pub fn opened_by(b: u8) -> Bracket
+        ensures { λ r. ⌜ r ≡ kindOf b ⌝ }
+    {
+        match b {
+            Bracket::ROUND_OPEN => Bracket::Round,
+            Bracket::SQUARE_OPEN => Bracket::Square,
+            Bracket::CURLY_OPEN => Bracket::Curly,
+            _ => Bracket::Angle,
+        }
+    }
+
+    // The byte that closes what an opening bracket opens.
+    pub fn partner(b: u8) -> u8
+        ensures { λ r. ⌜ r ≡ closer b ⌝ }
+    {
+        Bracket::opened_by(b).closing()
+    }
+
+    // Whether a byte opens one of the three pairs.
+    pub fn opens(b: u8) -> bool
+        ensures { λ r. ⌜ r ≡ isOpening b ⌝ }
+    {
+        (b == Bracket::ROUND_OPEN) | (b == Bracket::SQUARE_OPEN) | (b == Bracket::CURLY_OPEN)
+    }
+
+    // Whether a byte closes one of the three pairs.
+    pub fn closes(b: u8) -> bool
+        ensures { λ r. ⌜ r ≡ isClosing b ⌝ }
+    {
+        (b == Bracket::ROUND_CLOSE) | (b == Bracket::SQUARE_CLOSE) | (b == Bracket::CURLY_CLOSE)
+    }
+
+    // Whether a byte is of one of the three pairs.
+    pub fn is_one(b: u8) -> bool
+        ensures { λ r. ⌜ r ≡ isBracket b ⌝ }
+    {
+        Bracket::opens(b) | Bracket::closes(b)
+    }
+}
+
+impl OpenBrackets {
+    pub fn new() -> Self
+        ensures { λ r. ⌜ openOf r ≡ [] ⌝ }
+    {
+        OpenBrackets {
+            closing: [0; 256],
+            depth: 0,
+        }
+    }
+
+    pub fn is_empty(self) -> bool
+        ensures { λ r. ⌜ r ≡ isEmpty (openOf self) ⌝ }
+    {
+        self.depth == 0
+    }
+
+    // Whether a byte closes the innermost one.
+    pub fn top_is(self, b: u8) -> bool
+        ensures { λ r. ⌜ r ≡ topIs b (openOf self) ⌝ }
+    {
+        let at = self.depth;
+        if at == 0 {
+            return false;
+        }
+        if at <= 256 {
+            self.closing[at - 1] == b
+        } else {
+            0 == b
+        }
+    }
+
+    pub fn push(self, b: u8) -> Self
+        requires { ⌜ length (openOf self) < 256 ⌝ }
+        ensures { λ r. ⌜ openOf r ≡ b ∷ openOf self ⌝ }
+    {
+        let mut next = self;
+        let at = next.depth;
+        next.closing[at] = b;
+        next.depth = at + 1;
+        next
+    }
+
+    pub fn pop(self) -> Self
+        ensures { λ r. ⌜ openOf r ≡ drop 1 (openOf self) ⌝ }
+    {
+        let mut next = self;
+        let at = next.depth;
+        if 0 < at {
+            next.depth = at - 1;
+        }
+        next
+    }
+
+    // One more, which b closes.
+    pub fn opened(self, b: u8) -> Stepped
+        ensures { λ r. ⌜ bracketsOf r ≡ push b (openOf self) ⌝ }
+    {
+        if self.depth < 256 {
+            let open = self.push(b);
+            return Stepped {
+                effect: Effect::Held,
+                open,
+            };
+        }
+        Stepped {
+            effect: Effect::Deep,
+            open: self,
+        }
+    }
+
+    // The innermost one is closed by b.
+    pub fn closed(self, b: u8) -> Stepped
+        ensures { λ r. ⌜ bracketsOf r ≡ close b (openOf self) ⌝ }
+    {
+        if self.top_is(b) {
+            let open = self.pop();
+            return Stepped {
+                effect: Effect::Held,
+                open,
+            };
+        }
+        Stepped {
+            effect: Effect::Wrong,
+            open: self,
+        }
+    }
+
+    // No change.
+    pub fn kept(self) -> Stepped
+        ensures { λ r. ⌜ bracketsOf r ≡ held (openOf self) ⌝ }
+    {
+        Stepped {
+            effect: Effect::Held,
+            open: self,
+        }
+    }
+
+    // What a byte of code does, by the three pairs.
+    pub fn take(self, b: u8) -> Stepped
+        ensures { λ r. ⌜ bracketsOf r ≡ taken (openOf self) b ⌝ }
+    {
+        if Bracket::opens(b) {
+            return self.opened(Bracket::partner(b));
+        }
+        if Bracket::closes(b) {
+            return self.closed(b);
+        }
+        self.kept()
+    }
+}

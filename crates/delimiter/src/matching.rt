@@ -1,0 +1,60 @@
+// The parenthesis that matches an open one.
+use crate::Bracket;
+use crate::CommentStyle;
+use crate::Effect;
+use crate::Match;
+use crate::OpenBrackets;
+use crate::Unclosed;
+use crate::code;
+ghost use mathlib.Core.Path.{_≡_};
+ghost use mathlib.Core.List.{[], _∷_};
+ghost use Prim.Native.Nat.{_≤_};
+ghost use lib.ListN.{length, drop};
+ghost use Rattle.delimiter.specs.Code.{scanAt};
+ghost use Rattle.delimiter.specs.Matching.{matchFrom, matching};
+
+// The match of a parenthesis that is open before a place, by the code up to a literal or comment without an end.
+pub fn match_open(text: &[u8], at: usize, style: CommentStyle) -> Match
+    requires { ⌜ at ≤ length (now text) ⌝ }
+    ensures { λ r. ⌜ r ≡ matchFrom (41 ∷ []) (scanAt style (now (text .entry)) at .codes) ⌝ }
+{
+    let mut open = OpenBrackets::new().push(Bracket::ROUND_CLOSE);
+    let mut i = code::next_code(text, at, style);
+    while i < text.len() {
+        let b = text[i];
+        if Bracket::is_one(b) {
+            let step = open.take(b);
+            let effect = step.effect;
+            match effect {
+                Effect::Held => {
+                    open = step.open;
+                }
+                Effect::Wrong => {
+                    return Match::Unmatched;
+                }
+                Effect::Deep => {
+                    return Match::DeepAt(i);
+                }
+            }
+            if open.is_empty() {
+                return Match::ClosedAt(i);
+            }
+            i = code::next_code(text, i + 1, style);
+        } else {
+            i = code::next_code(text, i + 1, style);
+        }
+    }
+    Match::Unmatched
+}
+
+// The match of a parenthesis that is open before a place; none where a literal or comment anywhere behind it has no end.
+pub fn find_matching_parenthesis(text: &[u8], at: usize, style: CommentStyle) -> Match
+    requires { ⌜ at ≤ length (now text) ⌝ }
+    ensures { λ r. ⌜ r ≡ matching style at (drop at (now (text .entry))) ⌝ }
+{
+    match code::first_unclosed(text, at, style) {
+        Unclosed::Nothing => match_open(text, at, style),
+        Unclosed::Quote(_) => Match::Unmatched,
+        Unclosed::Comment(_) => Match::Unmatched,
+    }
+}
