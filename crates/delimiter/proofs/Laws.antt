@@ -204,7 +204,9 @@ module _ (style : CommentStyle) (s : List ℕ) (i : ℕ) where
 
   -- the code bytes from a place that holds one, and from the end
   pub onward-code : i < length s → onward style s i ≡ record { place = i; byte = getD s i 0 } ∷ scanAt style s (i + 1) .codes
+  unfolding onward
   onward-code h = rw (lt-ltb i (length s) h) refl
 
   pub onward-end : length s ≤ i → onward style s i ≡ []
+  unfolding onward
   onward-end h = rw (le-ltb i (length s) h) refl

@@ -121,7 +121,8 @@ abbrev pub scanAt : CommentStyle → List ℕ → ℕ → Scan
 scanAt style text at = scanFrom style zero at (drop at text)
 
 -- the code bytes of a text from place at on, where at holds one or is the end
-abbrev pub onward : CommentStyle → List ℕ → ℕ → List CodeByte
+unfoldable pub onward : CommentStyle → List ℕ → ℕ → List CodeByte
+unfolding scanFrom
 onward style text at =
     cond (ltb at (length text)) (record { place = at; byte = getD text at 0 } ∷ scanAt style text (at + 1) .codes) []
 

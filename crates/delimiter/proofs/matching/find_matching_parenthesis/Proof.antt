@@ -1,0 +1,21 @@
+-- `matching::find_matching_parenthesis` meets its contract: the scan error comes first, then the brackets.
+-- Assumes nothing.
+use mathlib.Core.Path.{sym, _∙_}
+use borrow.Author.Needs.{needs}
+use Rattle.delimiter.specs.Matching.{matching}
+use Rattle.delimiter.proofs.matching.find_matching_parenthesis.Statement.{statement}
+use Rattle.delimiter.proofs.matching.find_matching_parenthesis.Tie as tie
+
+pub find-matching-parenthesis-spec : {M : Type 1} → statement M
+unfolding matching
+find-matching-parenthesis-spec =
+    tie.close
+    (tie.spec
+    (λ c κs. search needs)
+    (λ c. search needs)
+    (λ c κs. search needs)
+    (λ c. search needs)
+    (λ c. search needs)
+    (λ c. c .match-open .ensures ∙ simp (sym (c .before .before .before .first-unclosed .ensures) ∙ c .before .enum-told .given .1))
+    (λ c. simp (sym (c .before .before .first-unclosed .ensures) ∙ c .enum-told2 .given .1))
+    (λ c. simp (sym (c .before .before .first-unclosed .ensures) ∙ c .enum-told3 .given .1)))
