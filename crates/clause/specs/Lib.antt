@@ -1,3 +1,4 @@
 pub mod Clause
 pub mod Sequence
 pub mod Calls
+pub mod Laws
