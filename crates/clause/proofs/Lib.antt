@@ -1,1 +1,3 @@
 pub mod Turns
+pub mod Rest
+pub mod Appended

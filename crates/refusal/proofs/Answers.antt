@@ -34,6 +34,11 @@ keeps-fault n (some p) x y h = λ a e. e
 pub keeps-admitted : {A : Type 0} (xs : List ℕ) (x y : Answer A) → Keeps x y → Keeps (admitted xs x) (admitted xs y)
 keeps-admitted xs x y h = keeps-cond (ltb maxLength (length xs)) _ _ _ _ (λ a e. e) (keeps-fault 2 (firstHigh 0 xs) x y h)
 
+-- where the step after it gives something, an answer and one that keeps it are the same
+pub keeps-then : {A B : Type 0} (x y : Answer A) (f : A → Answer B) (b : B) → Keeps x y → andThen x f ≡ given b → y ≡ x
+keeps-then (given a) y f b k h = k a refl
+keeps-then (refused n p) y f b k h = never _ n p b h
+
 -- whatever is given has the property
 abbrev pub Sure : {A : Type 0} → (A → Type 0) → Answer A → Type 0
 Sure P (given a) = P a
