@@ -1,0 +1,2 @@
+pub mod SameNames
+pub mod Ends
