@@ -6,8 +6,8 @@ use mathlib.Core.Path.{_≡_, refl}
 use mathlib.Core.List.{List, [], _∷_}
 use native.Mathlib.Omega.{arith}
 use lib.ListN.{length, drop, length-drop}
-use Rattle.lexer.specs.declared.Trivia.{Trivia}
-use Rattle.lexer.specs.declared.Trivia.the-variants.{Run, Open}
+use Rattle.lexer.specs.declared.Stretch.{Stretch}
+use Rattle.lexer.specs.declared.Stretch.the-variants.{Run, Open}
 use Rattle.lexer.specs.declared.Skipped.the-variants.{Past}
 use Rattle.lexer.specs.Trivia.{triviaOf, skipFrom, skip}
 
@@ -18,7 +18,7 @@ skipFrom-bounds f (suc k) at [] p h = let e : at ≡ p = cc in omega arith
 skipFrom-bounds f (suc k) at (x ∷ xs) p h = let b = skipFrom-bounds f k (suc at) xs p h in omega arith
 skipFrom-bounds f zero at (x ∷ xs) p h = go (triviaOf f (x ∷ xs)) refl (λ k. skipFrom-bounds f k (suc at) xs p)
   where
-    go : (t : Trivia) → triviaOf f (x ∷ xs) ≡ t → ((k : ℕ) → skipFrom f k (suc at) xs ≡ Past p → (suc at ≤ p) × (p ≤ suc at + length xs))
+    go : (t : Stretch) → triviaOf f (x ∷ xs) ≡ t → ((k : ℕ) → skipFrom f k (suc at) xs ≡ Past p → (suc at ≤ p) × (p ≤ suc at + length xs))
         → (at ≤ p) × (p ≤ at + suc (length xs))
     go Open e ih = let q = rw (skipFrom, e) at h in let z : _≡_ {A = ℕ} 0 1 = cc in absurd (omega arith)
     go (Run zero) e ih = let q = rw (skipFrom, e) at h in let z : at ≡ p = cc in omega arith
