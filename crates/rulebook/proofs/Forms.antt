@@ -21,7 +21,7 @@ use Rattle.rulebook.specs.Book.{nameAt, placeAfter, Laid, LaidIn, direct
 use Rattle.rulebook.specs.Check.{HasForm, orElse, bookFault}
 use Rattle.rulebook.proofs.Steps.{bad-here, bad-later, bad-end}
 
-never : {X : Type 0} (p : ℕ) → _≡_ {A = Option ℕ} (some p) none → X
+pub never : {X : Type 0} (p : ℕ) → _≡_ {A = Option ℕ} (some p) none → X
 never p e = let z : _≡_ {A = ℕ} 0 1 = cc in absurd (omega arith)
 
 when-next : (b : Bool) (e next : Expect) → whenGood b e ≡ Next next → (b ≡ true) × (next ≡ e)
