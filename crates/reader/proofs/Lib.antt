@@ -1,0 +1,2 @@
+pub mod Breaks
+pub mod Appended
