@@ -1,4 +1,5 @@
--- Demand 3, as statements about what the calls give: breaks change nothing but the map, and appended clause names change no accepted reading.
+-- Demand 3, as statements about what the calls give: breaks change nothing but the map, and appended clause names change no accepted reading;
+-- and what is read under default Unsupported. Their proofs are theorems of these types.
 use Prim.Native.Nat.{ℕ, suc, _≤_, _<_}
 use mathlib.Core.Option.{none}
 use mathlib.Core.Path.{_≡_}
@@ -9,12 +10,14 @@ use Rattle.refusal.specs.Answer.{given, maxLength}
 use Rattle.lexer.specs.declared.Language.{Language}
 use Rattle.lexer.specs.declared.Language.the-variants.{C}
 use Rattle.lexer.specs.declared.Prefix.{Prefix}
+use Rattle.source.specs.Joining.{joinedText}
 use Rattle.source.specs.Calls.{joinCall}
 use Rattle.source.specs.Laws.{Break, broken, brokenMap, isPlain}
 use Rattle.rulebook.specs.declared.ClauseRule.the-variants.{Unsupported}
 use Rattle.rulebook.specs.Book.{bookOf}
 use Rattle.rulebook.specs.Check.{bookFault}
 use Rattle.rulebook.specs.Lookup.{IsAppended}
+use Rattle.clause.specs.Laws.{NamesEntries}
 use Rattle.reader.specs.declared.Reading.{Reading}
 use Rattle.reader.specs.Calls.{lineCall}
 
@@ -38,3 +41,12 @@ AppendedNamesKeepReadings = (l : Language) (p : Prefix) (short long line : List 
     → bookFault short ≡ none → bookFault long ≡ none → IsAppended (bookOf short) (bookOf long) → bookOf short .default ≡ Unsupported
     → lineCall l p short line textSlots mapSlots recordSlots .answer ≡ given reading
     → lineCall l p long line textSlots mapSlots recordSlots ≡ lineCall l p short line textSlots mapSlots recordSlots
+
+-- "With default Unsupported a clause that fails is refused": so the unread rest of an accepted line is the end of its joined text, and each of its
+-- clauses has an entry of the book.
+abbrev pub StrictReadingsAreWhole : Type 0
+StrictReadingsAreWhole = (l : Language) (p : Prefix) (book line : List ℕ) (textSlots mapSlots recordSlots : ℕ) (reading : Reading)
+    → bookOf book .default ≡ Unsupported
+    → lineCall l p book line textSlots mapSlots recordSlots .answer ≡ given reading
+    → (reading .rest ≡ length (joinedText l line))
+    × NamesEntries (reading .count) (length (bookOf book .clauses)) (lineCall l p book line textSlots mapSlots recordSlots .records)
