@@ -1,3 +1,4 @@
 pub mod Breaks
 pub mod Appended
+pub mod AppendExample
 pub mod Rest

@@ -9,7 +9,7 @@ use lib.ListN.{length, drop}
 use lib.Dec.{eqb}
 use borrow.Author.Tests.{eqb-false}
 use Rattle.ascii.specs.Text.{bytes}
-use Rattle.refusal.specs.Answer.{Answer, given, refused, andThen, unlessFault, slots}
+use Rattle.refusal.specs.Answer.{Answer, given, refused, andThen, slots}
 use Rattle.refusal.proofs.Answers.{never, Sure, sure-cond, sure-fault, sure-admitted, sure-then, sure-past}
 use Rattle.lexer.specs.declared.Language.{Language}
 use Rattle.lexer.specs.declared.Language.the-variants.{C, FortranFree, FortranFixed}
