@@ -1,17 +1,18 @@
 -- What the definitions of Fortran's continuation say at a place of a text, in the places that the code reads at.
 -- Assumes nothing.
-use mathlib.Core.Path.{_≡_}
-use mathlib.Core.Bool.{cond}
+use mathlib.Core.Path.{_≡_, refl}
+use mathlib.Core.Bool.{Bool, true, false, cond}
 use mathlib.Core.List.{List}
-use Prim.Native.Nat.{ℕ, _+_, _-_}
+use Prim.Native.Nat.{ℕ, _+_, _-_, _<_}
 use native.Mathlib.Nat.{add-zero, add-assoc}
 use native.Mathlib.Omega.{arith}
 use lib.ListN.{drop, getD}
 use lib.Seq.{getD-drop, drop-drop}
 use lib.Dec.{eqb, ltb}
+use borrow.Author.Tests.{eqb-true}
 use Rattle.ascii.specs.Ascii.{isBlank}
 use Rattle.ascii.specs.Text.{leading}
-use Rattle.lexer.specs.Continuation.{sentinelAny, eol, commentF, marker, lead, breakF}
+use Rattle.lexer.specs.Continuation.{sentinelAny, eol, commentF, marker, lead, breakC, breakF}
 
 module _ (s : List ℕ) (at : ℕ) where
   pub marker-at : (end : ℕ) → end ≡ at + leading isBlank (drop at s) → marker (drop at s) ≡ cond (eqb (getD s end 0) 38) (end - at + 1) 0
@@ -37,3 +38,12 @@ module _ (s : List ℕ) (at : ℕ) where
       let m = commentF (drop (at + 1 + k) s) in
       let q : (n : ℕ) → at + 1 + k + m + n - at ≡ 1 + k + m + n = λ n. omega arith in
       rw (f, e) (simp (getD-drop, add-zero, b, drop-drop, ← add-assoc, q))
+
+-- no text begins with the continuations of both languages
+pub one-break : (xs : List ℕ) → 0 < breakC xs → breakF xs ≡ 0
+unfolding breakC breakF
+one-break xs = go (eqb (getD xs 0 0) 92) refl
+  where
+    go : (b : Bool) → eqb (getD xs 0 0) 92 ≡ b → 0 < breakC xs → breakF xs ≡ 0
+    go false e h = absurd (omega (arith, rw e at h))
+    go true e h = simp (eqb-true (getD xs 0 0) 92 e)

@@ -1,11 +1,12 @@
 -- Laws of keptFrom, for any rule of what is cut. Assumes nothing.
 use Prim.Native.Nat.{ℕ, zero, suc, _+_, _<_, _≤_}
 use native.Mathlib.Nat.{add-zero}
+use native.Mathlib.Numerals.{add-one}
 use native.Mathlib.Omega.{arith}
-use mathlib.Core.Path.{_≡_, refl}
+use mathlib.Core.Path.{_≡_, refl, sym, _∙_}
 use mathlib.Core.List.{List, [], _∷_}
 use lib.ListN.{length, drop, getD, drop-of-length-le}
-use lib.Seq.{drop-cons}
+use lib.Seq.{drop-cons, drop-drop}
 use Rattle.source.specs.Joining.{keptFrom}
 
 module _ (cut : List ℕ → ℕ) (at : ℕ) where
@@ -46,3 +47,15 @@ module _ (cut : List ℕ → ℕ) (line : List ℕ) (i : ℕ) where
 
   pub kept-cut-at : (k : ℕ) → i < length line → cut (drop i line) ≡ suc k → keptFrom cut 0 i (drop i line) ≡ keptFrom cut k (suc i) (drop (suc i) line)
   kept-cut-at k h e = rw (drop-cons line i 0) (kept-cut cut i (getD line i 0) (drop (suc i) line) k (rw (drop-cons line i 0) at e))
+
+-- the same in the terms of a loop that reads at i
+module _ (cut : List ℕ → ℕ) (line : List ℕ) (i : ℕ) where
+  pub kept-next : i < length line → 0 ≡ cut (drop i line)
+      → keptFrom cut 0 i (drop i line) ≡ record { byte = getD line i 0; place = i } ∷ keptFrom cut 0 (i + 1) (drop (i + 1) line)
+  kept-next h e = rw add-one (kept-at cut line i h (sym e))
+
+  pub kept-jump : (n : ℕ) → i < length line → n ≡ cut (drop i line) → (n ≡ 0 → ⊥) → keptFrom cut 0 i (drop i line) ≡ keptFrom cut 0 (i + n) (drop (i + n) line)
+  kept-jump zero h e z = absurd (z refl)
+  kept-jump (suc k) h e z =
+      let q : i + suc k ≡ suc i + k = omega arith in
+      kept-cut-at cut line i k h (sym e) ∙ kept-skip cut (suc i) k (drop (suc i) line) ∙ rw (drop-drop, q)

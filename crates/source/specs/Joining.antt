@@ -40,6 +40,10 @@ joinedText l line = map byteOf (keptFrom (cutOf l) zero zero line)
 unfoldable pub joinedMap : Language → List ℕ → List ℕ
 joinedMap l line = map placeOf (keptFrom (cutOf l) zero zero line) ++ (length line ∷ [])
 
--- "Content copy gives `collapse_line_continuations` of it": both languages' continuations go. No text begins with both.
+-- the bytes of the continuation of either language that a text begins with, or 0. No text begins with both.
+abbrev pub anyCut : List ℕ → ℕ
+anyCut xs = breakC xs + breakF xs
+
+-- "Content copy gives `collapse_line_continuations` of it": both languages' continuations go
 unfoldable pub collapsed : List ℕ → List ℕ
-collapsed xs = map byteOf (keptFrom (λ s. breakC s + breakF s) zero zero xs)
+collapsed xs = map byteOf (keptFrom anyCut zero zero xs)

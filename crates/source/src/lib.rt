@@ -1,4 +1,6 @@
 // One logical line of several physical ones: validation, joining with its byte map, map-back, content copy.
+pub mod joining;
+
 use refusal::Refusal;
 
 // What a physical line, with all that follows it, says of the whole: all is well, a fault at a place,
