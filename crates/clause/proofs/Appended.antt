@@ -19,7 +19,7 @@ use Rattle.rulebook.specs.declared.ClauseRule.{ClauseRule}
 use Rattle.rulebook.specs.declared.ClauseRule.the-variants.{Bare, Parenthesized, Flexible, Unsupported}
 use Rattle.rulebook.specs.Book.{Book, bookOf}
 use Rattle.rulebook.specs.Lookup.{IsAppended}
-use Rattle.rulebook.proofs.Lookups.{entryFrom-below, entryFrom-appended, ruleAt-appended}
+use Rattle.rulebook.proofs.Appended.{entryFrom-below, entryFrom-appended, ruleAt-appended}
 use Rattle.clause.specs.declared.ClauseRecord.{ClauseRecord}
 use Rattle.clause.specs.Clause.{clause, style, closing, argument, wordLength, found, clauseAt}
 use Rattle.clause.specs.Sequence.{atComma, separated, Sequence, sequenceFrom, sequenceAt}

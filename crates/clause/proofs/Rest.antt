@@ -16,7 +16,7 @@ use Rattle.lexer.proofs.Bounds.{skip-bounds}
 use Rattle.rulebook.specs.declared.ClauseRule.the-variants.{Unsupported}
 use Rattle.rulebook.specs.Book.{Book, bookOf}
 use Rattle.rulebook.specs.Check.{bookFault}
-use Rattle.rulebook.proofs.Lookups.{entryFrom-below}
+use Rattle.rulebook.proofs.Appended.{entryFrom-below}
 use Rattle.clause.specs.declared.ClauseRecord.{ClauseRecord}
 use Rattle.clause.specs.declared.SequenceEnd.{SequenceEnd}
 use Rattle.clause.specs.Clause.{zeroRecord}

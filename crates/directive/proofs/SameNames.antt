@@ -12,7 +12,7 @@ use Rattle.lexer.specs.declared.Skipped.the-variants.{Past, OpenAt}
 use Rattle.lexer.specs.Trivia.{skip}
 use Rattle.rulebook.specs.Book.{Entry, Book}
 use Rattle.rulebook.specs.Lookup.{comparison}
-use Rattle.rulebook.proofs.Lookups.{named, namesOf, entryFrom-same}
+use Rattle.rulebook.proofs.Appended.{named, namesOf, entryFrom-same}
 use Rattle.directive.specs.Name.{sameCompact, entriesWith, entryOf, isHead, mayGrow, Candidate, wordOf, nameFrom, nameAt}
 use Rattle.directive.specs.Laws.{NamesGoByDirectives}
 
