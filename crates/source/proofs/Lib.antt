@@ -1,5 +1,7 @@
 pub mod Kept
 pub mod Phase2
 pub mod Checking
+pub mod Lines
+pub mod BlankTail
 pub mod Woven
 pub mod BreakLaw

@@ -1,36 +1,43 @@
 -- Validation of a logical line (`validate_logical_line`): each end of line that more text follows must be continued.
-use Prim.Native.Nat.{ℕ, zero, suc, _+_, _-_}
+use Prim.Native.Nat.{ℕ, zero, suc, _+_, _-_, _<_, _≤_}
 use mathlib.Core.Bool.{Bool, true, false, cond, not, _&&_, _||_}
 use mathlib.Core.Option.{Option, some, none}
 use mathlib.Core.List.{List, [], _∷_, reverse}
 use lib.ListN.{length, take, drop}
 use lib.Dec.{eqb, ltb}
 use Rattle.ascii.specs.Ascii.{isTrimmed, isBlank, isEol}
-use Rattle.ascii.specs.Text.{starts, leading, isBlankText}
+use Rattle.ascii.specs.Text.{starts, leading, isBlankText, trimmed}
 use Rattle.lexer.specs.declared.Language.{Language}
 use Rattle.lexer.specs.declared.Language.the-variants.{C, FortranFree, FortranFixed}
 use Rattle.lexer.specs.declared.Prefix.{Prefix}
 use Rattle.lexer.specs.Continuation.{sentinelEnded, sentinelAny}
+use Rattle.source.specs.declared.Quoting.{Quoting}
+use Rattle.source.specs.declared.Quoting.the-variants.{Outside, Inside, Closing}
 use Rattle.source.specs.declared.Checked.{Checked}
 use Rattle.source.specs.declared.Checked.the-variants.{Fine, WrongAt, Next}
 
--- `fortran_line_has_trailing_continuation`, code: the bytes of a physical line up to its comment, literals seen, each line by itself;
--- outside a literal, inside one with quote q, and after a quote in one that may be the first of two
-unfoldable mutual
-  pub codeOutside : List ℕ → ℕ
-  codeOutside [] = 0
-  codeOutside (x ∷ xs) = cond (eqb x 33) 0 (suc (cond (eqb x 39 || eqb x 34) (codeInside x xs) (codeOutside xs)))
+-- a quote opens a literal
+abbrev pub opened : ℕ → Quoting
+opened x = cond (eqb x 39 || eqb x 34) (Inside x) Outside
 
-  pub codeInside : ℕ → List ℕ → ℕ
-  codeInside q [] = 0
-  codeInside q (x ∷ xs) = suc (cond (eqb x q) (codeQuote q xs) (codeInside q xs))
+-- where the scan stands after a byte: a doubled quote stays inside
+abbrev pub afterByte : Quoting → ℕ → Quoting
+afterByte Outside x = opened x
+afterByte (Inside q) x = cond (eqb x q) (Closing q) (Inside q)
+afterByte (Closing q) x = cond (eqb x q) (Inside q) (opened x)
 
-  pub codeQuote : ℕ → List ℕ → ℕ
-  codeQuote q [] = 0
-  codeQuote q (x ∷ xs) = cond (eqb x q) (suc (codeInside q xs)) (cond (eqb x 33) 0 (suc (cond (eqb x 39 || eqb x 34) (codeInside x xs) (codeOutside xs))))
+abbrev pub isInside : Quoting → Bool
+isInside Outside = false
+isInside (Inside q) = true
+isInside (Closing q) = false
+
+-- `fortran_line_has_trailing_continuation`, code: the bytes of a physical line up to its comment, literals seen, each line by itself
+unfoldable pub codeLength : Quoting → List ℕ → ℕ
+codeLength q [] = 0
+codeLength q (x ∷ xs) = cond (eqb x 33 && not (isInside q)) 0 (suc (codeLength (afterByte q x) xs))
 
 -- the last byte that trimming leaves is b
-abbrev pub endsIn : ℕ → List ℕ → Bool
+unfoldable pub endsIn : ℕ → List ℕ → Bool
 endsIn b xs = starts b (drop (leading isTrimmed (reverse xs)) (reverse xs))
 
 abbrev pub unindented : List ℕ → List ℕ
@@ -42,7 +49,7 @@ contentF p line = drop (sentinelEnded p (unindented line)) (unindented line)
 
 -- `fortran_line_has_trailing_continuation`: its code ends in `&`
 unfoldable pub continuedF : Prefix → List ℕ → Bool
-continuedF p line = endsIn 38 (take (codeOutside (contentF p line)) (contentF p line))
+continuedF p line = endsIn 38 (take (codeLength Outside (contentF p line)) (contentF p line))
 
 -- the physical line is continued; in C, its last byte is a backslash. "Fixed form uses the free-form `&`"
 abbrev pub continued : Language → Prefix → List ℕ → Bool
@@ -99,3 +106,13 @@ module _ (l : Language) (p : Prefix) where
   -- row 6, "validation fails, physical place": where a line first breaks the rule of its language
   unfoldable pub fault : List ℕ → Option ℕ
   fault line = faultFrom zero zero line
+
+-- the place from which on a text is blank
+abbrev pub blankFrom : List ℕ → ℕ
+blankFrom xs = trimmed zero xs .end
+
+-- the next physical line is further on, and not past n bytes
+abbrev pub Onward : ℕ → ℕ → Checked → Type 0
+Onward at n Fine = Unit {0}
+Onward at n (WrongAt q) = Unit {0}
+Onward at n (Next k) = (0 < k) × (at + k ≤ n)

@@ -1,5 +1,6 @@
 // One logical line of several physical ones: validation, joining with its byte map, map-back, content copy.
 pub mod joining;
+pub mod validation;
 
 use refusal::Refusal;
 
@@ -9,6 +10,14 @@ pub enum Checked {
     Fine,
     WrongAt(usize),
     Next(usize),
+}
+
+// Where the scan of a physical line stands: outside of literals, inside one with its quote, or after a quote in one that
+// may be the first of two.
+pub enum Quoting {
+    Outside,
+    Inside(u8),
+    Closing(u8),
 }
 
 // The length of the joined text, or a refusal.
