@@ -2,18 +2,19 @@
 use Prim.Native.Nat.{ℕ, zero, suc, _+_, _-_, _<_, _≤_}
 use native.Mathlib.Nat.{add-zero}
 use native.Mathlib.Omega.{arith}
-use mathlib.Core.Bool.{Bool, true, false, cond}
+use mathlib.Core.Bool.{Bool, true, false, cond, _&&_}
 use mathlib.Core.Option.{some, none}
 use mathlib.Core.Path.{_≡_, refl}
 use mathlib.Core.List.{List, [], _∷_}
-use lib.ListN.{length, take, drop, getD, drop-of-length-le}
+use lib.ListN.{length, take, drop, getD, length-drop, drop-of-length-le}
 use lib.Seq.{drop-cons, drop-drop, length-take-le}
-use lib.Dec.{ltb}
-use Rattle.ascii.specs.Text.{leading}
+use lib.Dec.{eqb, ltb}
+use Rattle.ascii.specs.Ascii.{isBlank}
+use Rattle.ascii.specs.Text.{leading, isBlankText}
 use Rattle.lexer.specs.declared.Language.{Language}
 use Rattle.lexer.specs.declared.Prefix.{Prefix}
 use Rattle.source.specs.declared.Checked.the-variants.{Fine, WrongAt, Next}
-use Rattle.source.specs.Validation.{checkLine, faultFrom}
+use Rattle.source.specs.Validation.{continued, foreign, lineLength, eolBytes, isOver, checkEnd, checkLine, faultFrom}
 
 pub leading-le : (q : ℕ → Bool) (xs : List ℕ) → leading q xs ≤ length xs
 unfolding leading
@@ -76,3 +77,24 @@ module _ (l : Language) (p : Prefix) where
         let q : i + suc n ≡ suc i + n = omega arith in
         rw (q, ← drop-drop n (suc i) line, drop-cons line i 0)
         (rw (fault-next i (getD line i 0) (drop (suc i) line) n (rw (drop-cons line i 0) at e)) (fault-skip n (suc i) (drop (suc i) line)))
+
+-- the check of the physical line at a place, in the places that the code reads at
+module _ (l : Language) (p : Prefix) (s : List ℕ) (at end : ℕ) where
+  pub check-at : (later : Bool) → end ≡ at + lineLength (drop at s)
+      → checkLine l p later at (drop at s)
+      ≡ cond (later && foreign l p (take (end - at) (drop at s))) (WrongAt (at + leading isBlank (drop at s))) (checkEnd l p at (take (end - at) (drop at s)) (drop end s))
+  unfolding checkLine
+  check-at later e =
+      let q : end - at ≡ lineLength (drop at s) = omega arith in
+      rw (q, e) (simp drop-drop)
+
+  pub check-end-at : at ≤ end → end ≤ length s
+      → checkEnd l p at (take (end - at) (drop at s)) (drop end s)
+      ≡ cond (isOver (drop end s)) Fine
+      (cond (eqb (eolBytes (drop end s)) 0) (WrongAt end)
+      (cond (isBlankText (drop (end + eolBytes (drop end s)) s)) Fine
+      (cond (continued l p (take (end - at) (drop at s))) (Next (end - at + eolBytes (drop end s))) (WrongAt end))))
+  check-end-at h g =
+      let m : length (take (end - at) (drop at s)) ≡ end - at = length-take-le (end - at) (drop at s) (rw length-drop (omega arith)) in
+      let q : at + (end - at) ≡ end = omega arith in
+      simp (m, q, drop-drop)

@@ -1,7 +1,6 @@
 // Joining: each continuation goes, every other byte is kept with its physical place.
 use lexer::Language;
 use lexer::continuation;
-
 ghost use mathlib.Core.Path.{_≡_};
 ghost use Prim.Native.Nat.{_+_, _<_, _≤_};
 ghost use lib.ListN.{length, take, drop};

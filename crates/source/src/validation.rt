@@ -1,20 +1,19 @@
 // Validation of a logical line: each end of line that more text follows must be continued.
-use ascii::ByteSet;
-use ascii::Found;
 use crate::Checked;
 use crate::Quoting;
+use ascii::ByteSet;
+use ascii::Found;
 use lexer::Language;
 use lexer::Prefix;
 use lexer::continuation;
-
 ghost use mathlib.Core.Path.{_≡_};
 ghost use mathlib.Core.List.{reverse};
-ghost use Prim.Native.Nat.{_+_, _<_, _≤_};
-ghost use lib.ListN.{length, drop};
+ghost use Prim.Native.Nat.{_+_, _-_, _<_, _≤_};
+ghost use lib.ListN.{length, take, drop};
 ghost use lib.Dec.{ltb};
 ghost use Rattle.ascii.specs.Text.{starts, foundAt};
 ghost use Rattle.source.specs.declared.Quoting.the-variants.{Outside};
-ghost use Rattle.source.specs.Validation.{opened as openedBy, afterByte, isInside, codeLength, endsIn, continuedF, continued as continuedIn, foreignF, foreign as foreignIn, eolBytes, checkLine, fault, blankFrom, Onward};
+ghost use Rattle.source.specs.Validation.{opened as openedBy, afterByte, isInside, codeLength, endsIn, continuedF, continued as continuedIn, foreignF, foreign as foreignIn, eolBytes, checkEnd, checkLine, fault, blankFrom, Onward};
 
 // A quote opens a literal.
 fn opened(b: u8) -> Quoting
@@ -162,4 +161,71 @@ fn blank_from(text: &[u8]) -> usize
 {
     let range = ascii::trim_range(text);
     range.end
+}
+
+// What follows the physical line from a place to its end: nothing, a lone CR, a blank tail, or more text.
+fn check_end(
+    language: Language,
+    prefix: Prefix,
+    text: &[u8],
+    at: usize,
+    end: usize,
+    tail: usize,
+) -> Checked
+    requires { ⌜ (at ≤ end) × (end ≤ length (now text)) ⌝ }
+    requires { ⌜ tail ≡ blankFrom (now text) ⌝ }
+    ensures { λ r. ⌜ r ≡ checkEnd language prefix at (take (end - at) (drop at (now (text .entry)))) (drop end (now (text .entry))) ⌝ }
+    ensures { λ r. ⌜ Onward at (length (now (text .entry))) r ⌝ }
+{
+    if end == text.len() {
+        return Checked::Fine;
+    }
+    let n = eol_bytes(text, end);
+    if n == 0 {
+        return Checked::WrongAt(end);
+    }
+    if tail <= end + n {
+        return Checked::Fine;
+    }
+    if continued(language, prefix, &text[at..end]) {
+        return Checked::Next(end - at + n);
+    }
+    Checked::WrongAt(end)
+}
+
+// The physical line at a place, with all that follows it.
+fn check_line(language: Language, prefix: Prefix, text: &[u8], at: usize, tail: usize) -> Checked
+    requires { ⌜ at ≤ length (now text) ⌝ }
+    requires { ⌜ tail ≡ blankFrom (now text) ⌝ }
+    ensures { λ r. ⌜ r ≡ checkLine language prefix (ltb 0 at) at (drop at (now (text .entry))) ⌝ }
+    ensures { λ r. ⌜ Onward at (length (now (text .entry))) r ⌝ }
+{
+    let end = ascii::run_end(text, at, ByteSet::InLine);
+    let other = foreign(language, prefix, &text[at..end]);
+    if (0 < at) & other {
+        return Checked::WrongAt(ascii::run_end(text, at, ByteSet::Blank));
+    }
+    check_end(language, prefix, text, at, end, tail)
+}
+
+// Where a logical line first breaks the rule of its language. The blank tail is found once, so that all is one pass.
+pub fn validate_logical_line(language: Language, prefix: Prefix, line: &[u8]) -> Found
+    ensures { λ r. ⌜ foundAt r ≡ fault language prefix (now (line .entry)) ⌝ }
+{
+    let tail = blank_from(line);
+    let mut at = 0;
+    while at < line.len() {
+        match check_line(language, prefix, line, at, tail) {
+            Checked::Fine => {
+                return Found::Nothing;
+            }
+            Checked::WrongAt(place) => {
+                return Found::At(place);
+            }
+            Checked::Next(n) => {
+                at += n;
+            }
+        }
+    }
+    Found::Nothing
 }
