@@ -1,16 +1,16 @@
 -- The rest of a text is blank exactly from one place on, found once from the back: a pass over the lines need not look again.
 -- Assumes nothing.
-use mathlib.Core.Path.{_≡_, refl, sym, ap, subst, _∙_}
+use mathlib.Core.Path.{_≡_, refl, sym, ap, _∙_}
 use mathlib.Core.Bool.{Bool, true, false, cond}
 use mathlib.Core.List.{List, [], _∷_, _++_, reverse, reverse-append, reverse-reverse}
-use Prim.Native.Nat.{ℕ, zero, suc, _+_, _-_, _<_, _≤_}
+use Prim.Native.Nat.{ℕ, suc, _-_, _<_, _≤_}
 use native.Mathlib.Nat.{zero-add}
 use native.Mathlib.Omega.{arith}
 use lib.ListN.{length, take, drop, length-drop, length-reverse, take-append-drop}
 use lib.Dec.{eqb, ltb, leb}
 use borrow.Author.Tests.{ltb-true, ltb-false, eq-eqb, ne-eqb, le-leb, lt-leb}
 use Rattle.ascii.specs.Ascii.{isTrimmed}
-use Rattle.ascii.specs.Text.{leading, isBlankText, trimmed}
+use Rattle.ascii.specs.Text.{leading, isBlankText}
 use Rattle.ascii.proofs.Flags.{by-cases}
 use Rattle.ascii.proofs.Texts.{leading-le, leading-apart, trimmed-blank, trimmed-solid}
 use Rattle.source.specs.Validation.{blankFrom}

@@ -1,8 +1,8 @@
 -- Laws of one physical line, in the terms of the code that scans it: its code, its last byte, its end of line.
 -- Assumes nothing.
-use mathlib.Core.Path.{_≡_, refl}
-use mathlib.Core.Bool.{Bool, true, false, cond, not, _&&_}
-use mathlib.Core.List.{List, [], _∷_, _++_, reverse, reverse-append}
+use mathlib.Core.Path.{_≡_}
+use mathlib.Core.Bool.{true, false, cond, not, _&&_}
+use mathlib.Core.List.{List, [], _∷_, reverse, reverse-append}
 use Prim.Native.Nat.{ℕ, zero, suc, _+_, _-_, _<_, _≤_}
 use native.Mathlib.Nat.{add-zero, zero-add}
 use native.Mathlib.Numerals.{add-one}

@@ -1,4 +1,5 @@
 pub mod Validation
 pub mod Joining
 pub mod Calls
+pub mod Verdicts
 pub mod Laws

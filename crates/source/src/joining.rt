@@ -61,7 +61,7 @@ pub fn join_into(language: Language, line: &[u8], text: &mut [u8], map: &mut [u1
 }
 
 // Copies a content that fits without the continuations of either language, once over; the copy's length is returned.
-fn copy_into(content: &[u8], copy: &mut [u8]) -> usize
+pub fn copy_into(content: &[u8], copy: &mut [u8]) -> usize
     requires { ⌜ length (now content) ≤ length (now copy) ⌝ }
     ensures within { λ r. ⌜ r ≤ length (now (content .entry)) ⌝ }
     ensures count { λ r. ⌜ r ≡ length (collapsed (now (content .entry))) ⌝ }

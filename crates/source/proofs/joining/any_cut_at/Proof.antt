@@ -1,6 +1,5 @@
 -- `source::joining::any_cut_at` meets its contract: where a break of C stands there is no continuation of Fortran.
 -- Assumes nothing.
-use mathlib.Core.Path.{_≡_}
 use native.Mathlib.Omega.{arith}
 use lib.ListN.{drop}
 use borrow.Author.Needs.{needs}

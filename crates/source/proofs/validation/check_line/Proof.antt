@@ -1,6 +1,5 @@
 -- `source::validation::check_line` meets its contract: the line's end is found first, then a foreign sentinel is asked for, then what follows.
 -- Assumes nothing.
-use mathlib.Core.Path.{_≡_}
 use lib.Dec.{ltb}
 use borrow.Author.Needs.{needs}
 use Rattle.source.proofs.Checking.{check-at}

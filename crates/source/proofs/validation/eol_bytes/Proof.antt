@@ -1,6 +1,6 @@
 -- `source::validation::eol_bytes` meets its contract: each return is a case of the definition, of the two bytes read.
 -- Assumes nothing.
-use mathlib.Core.Path.{_≡_, sym, _∙_}
+use mathlib.Core.Path.{sym, _∙_}
 use native.Mathlib.Omega.{arith}
 use borrow.Author.Needs.{needs}
 use borrow.Author.Tests.{ne-eqb}
