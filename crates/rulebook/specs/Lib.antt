@@ -2,3 +2,4 @@ pub mod Format
 pub mod Book
 pub mod Check
 pub mod Lookup
+pub mod Examples
