@@ -4,6 +4,7 @@ use crate::words::ends;
 use crate::words::list_at;
 use crate::words::nth;
 use crate::words::number_at;
+use source::SpanAnswer;
 
 pub struct BackRequest {
     pub good: bool,
@@ -36,5 +37,10 @@ pub fn answer(line: &[u8], map: &mut [u16], buffer: &mut [u8], out: Out) -> Out 
 }
 
 fn answer_back(map: &[u16], asked: BackRequest, buffer: &mut [u8], out: Out) -> Out {
-    out.not_yet(buffer)
+    match source::map_back(map, asked.length, asked.start, asked.end) {
+        SpanAnswer::Found(span) => out.ok(buffer)
+            .and_number(buffer, span.start)
+            .and_number(buffer, span.end),
+        SpanAnswer::Refused(refused) => out.refused(buffer, refused),
+    }
 }

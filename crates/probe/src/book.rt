@@ -1,6 +1,7 @@
 // The request `book BOOK`.
 use crate::print::Out;
 use crate::words::only_bytes;
+use rulebook::BookAnswer;
 
 pub fn answer(line: &[u8], book: &mut [u8], buffer: &mut [u8], out: Out) -> Out {
     let size = only_bytes(line, book);
@@ -12,5 +13,8 @@ pub fn answer(line: &[u8], book: &mut [u8], buffer: &mut [u8], out: Out) -> Out 
 }
 
 fn answer_book(book: &[u8], buffer: &mut [u8], out: Out) -> Out {
-    out.not_yet(buffer)
+    match rulebook::check_book(book) {
+        BookAnswer::Valid => out.ok(buffer),
+        BookAnswer::Refused(refused) => out.refused(buffer, refused),
+    }
 }

@@ -1,4 +1,8 @@
 // Which call a request asks for.
+use crate::back;
+use crate::book;
+use crate::copy;
+use crate::join;
 use crate::print::Out;
 use crate::trim;
 use crate::words::part;
@@ -59,6 +63,10 @@ fn answer_call(
     let call = call_of(part(line, name));
     match call {
         Call::Trim => trim::answer(line, first, buffer, out),
+        Call::Join => join::answer(line, first, bytes, numbers, buffer, out),
+        Call::Back => back::answer(line, numbers, buffer, out),
+        Call::Copy => copy::answer(line, first, bytes, buffer, out),
+        Call::Book => book::answer(line, first, buffer, out),
         Call::Unknown => out.bad_request(buffer),
         _ => out.not_yet(buffer),
     }

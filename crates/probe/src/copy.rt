@@ -5,6 +5,7 @@ use crate::words::ends;
 use crate::words::hex_at;
 use crate::words::nth;
 use crate::words::slots_at;
+use source::CopyAnswer;
 
 pub fn answer(
     line: &[u8],
@@ -26,5 +27,13 @@ pub fn answer(
 
 fn answer_copy(content: &[u8], copy: &mut [u8], buffer: &mut [u8], out: Out) -> Out {
     fill_bytes(copy);
-    out.not_yet(buffer).and_bytes(buffer, copy)
+    let answer = source::copy_content(content, copy);
+    print_copy(answer, buffer, out).and_bytes(buffer, copy)
+}
+
+fn print_copy(answer: CopyAnswer, buffer: &mut [u8], out: Out) -> Out {
+    match answer {
+        CopyAnswer::Copied(length) => out.ok(buffer).and_number(buffer, length),
+        CopyAnswer::Refused(refused) => out.refused(buffer, refused),
+    }
 }

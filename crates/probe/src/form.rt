@@ -2,6 +2,8 @@
 use crate::words::choice_at;
 use crate::words::nth;
 use crate::words::slots_at;
+use lexer::Language;
+use lexer::Prefix;
 ghost use Prim.Native.Nat.{_≤_};
 
 // language: 0 for C, 1 for free form, 2 for fixed form; prefix: 0 for omp, 1 for acc.
@@ -11,6 +13,25 @@ pub struct Form {
     pub prefix: usize,
     pub text: usize,
     pub map: usize,
+}
+
+impl Form {
+    pub fn language(self) -> Language {
+        let language = self.language;
+        match language {
+            0 => Language::C,
+            1 => Language::FortranFree,
+            _ => Language::FortranFixed,
+        }
+    }
+
+    pub fn prefix(self) -> Prefix {
+        if self.prefix == 0 {
+            Prefix::Omp
+        } else {
+            Prefix::Acc
+        }
+    }
 }
 
 pub fn form_of(line: &[u8], most_text: usize, most_map: usize) -> Form

@@ -7,6 +7,7 @@ use crate::print::Out;
 use crate::words::ends;
 use crate::words::hex_at;
 use crate::words::nth;
+use source::JoinAnswer;
 
 pub fn answer(
     line: &[u8],
@@ -39,7 +40,15 @@ fn answer_join(
 ) -> Out {
     fill_bytes(text);
     fill_numbers(map);
-    out.not_yet(buffer)
+    let answer = source::join_line(form.language(), form.prefix(), source, text, map);
+    print_join(answer, buffer, out)
         .and_bytes(buffer, text)
         .and_numbers(buffer, map)
+}
+
+fn print_join(answer: JoinAnswer, buffer: &mut [u8], out: Out) -> Out {
+    match answer {
+        JoinAnswer::Joined(length) => out.ok(buffer).and_number(buffer, length),
+        JoinAnswer::Refused(refused) => out.refused(buffer, refused),
+    }
 }

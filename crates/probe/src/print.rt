@@ -1,5 +1,6 @@
 // The answers, gathered in a lent buffer that is written to standard output whenever it is full.
 use libc::STDOUT_FILENO;
+use refusal::Refusal;
 ghost use Prim.Native.Nat.{_≤_};
 ghost use lib.ListN.{length};
 
@@ -100,9 +101,12 @@ impl Out {
     }
 
     // A refusal, by its number, and where it stands.
-    pub fn refused(self, buffer: &mut [u8], number: usize, place: usize) -> Out {
+    pub fn refused(self, buffer: &mut [u8], refused: Refusal) -> Out {
         let out = self.bytes(buffer, b"refused");
-        out.and_number(buffer, number).and_number(buffer, place)
+        let reason = refused.reason;
+        let number = refusal::number(reason) as usize;
+        out.and_number(buffer, number)
+            .and_number(buffer, refused.place)
     }
 
     // Slots behind what stands before them.

@@ -16,6 +16,11 @@ pub struct Number {
     pub value: usize,
 }
 
+const NONE: Number = Number {
+    good: false,
+    value: 0,
+};
+
 // How many bytes two words spell; good is false where either spells none.
 pub struct Sizes {
     pub good: bool,
@@ -129,16 +134,12 @@ pub fn decimal(word: &[u8], most: usize) -> Number
     requires { ⌜ most ≤ 100000 ⌝ }
     ensures { λ r. ⌜ r .value ≤ most ⌝ }
 {
-    let bad = Number {
-        good: false,
-        value: 0,
-    };
     if word.len() == 0 {
-        return bad;
+        return NONE;
     }
     if word.len() > 1 {
         if word[0] == b'0' {
-            return bad;
+            return NONE;
         }
     }
     digits(word, most)
@@ -157,10 +158,7 @@ pub fn slots_at(line: &[u8], word: Word, most: usize) -> Number
 {
     let number = number_at(line, word);
     if number.value > most {
-        return Number {
-            good: false,
-            value: 0,
-        };
+        return NONE;
     }
     number
 }
@@ -170,20 +168,16 @@ fn digits(word: &[u8], most: usize) -> Number
     requires { ⌜ most ≤ 100000 ⌝ }
     ensures { λ r. ⌜ r .value ≤ most ⌝ }
 {
-    let bad = Number {
-        good: false,
-        value: 0,
-    };
     let mut value = 0;
     let mut i = 0;
     while i < word.len() {
         let digit = decimal_digit(word[i]);
         if digit > 9 {
-            return bad;
+            return NONE;
         }
         value = value * 10 + digit;
         if value > most {
-            return bad;
+            return NONE;
         }
         i += 1;
     }
@@ -227,10 +221,7 @@ pub fn hex(word: &[u8], bytes: &mut [u8]) -> Number
     ensures { λ r. ⌜ r .value ≤ length (now (bytes .exit)) ⌝ }
 {
     if word.len() == 0 {
-        return Number {
-            good: false,
-            value: 0,
-        };
+        return NONE;
     }
     if same(word, b"-") {
         return Number {
@@ -251,23 +242,19 @@ pub fn hex_at(line: &[u8], word: Word, bytes: &mut [u8]) -> Number
 fn hex_pairs(word: &[u8], bytes: &mut [u8]) -> Number
     ensures { λ r. ⌜ r .value ≤ length (now (bytes .exit)) ⌝ }
 {
-    let bad = Number {
-        good: false,
-        value: 0,
-    };
     let mut at = 0;
     let mut n = 0;
     while at + 1 < word.len() {
         let high = hex_digit(word[at]);
         let low = hex_digit(word[at + 1]);
         if high > 15 {
-            return bad;
+            return NONE;
         }
         if low > 15 {
-            return bad;
+            return NONE;
         }
         if n >= bytes.len() {
-            return bad;
+            return NONE;
         }
         bytes[n] = high * 16 + low;
         at += 2;
@@ -285,10 +272,7 @@ pub fn only_bytes(line: &[u8], bytes: &mut [u8]) -> Number
 {
     let word = nth(line, 1);
     if !ends(line, word) {
-        return Number {
-            good: false,
-            value: 0,
-        };
+        return NONE;
     }
     hex_at(line, word, bytes)
 }
@@ -330,20 +314,16 @@ pub fn list_at(line: &[u8], word: Word, numbers: &mut [u16]) -> Number
 fn list_items(word: &[u8], numbers: &mut [u16]) -> Number
     ensures { λ r. ⌜ r .value ≤ length (now (numbers .exit)) ⌝ }
 {
-    let bad = Number {
-        good: false,
-        value: 0,
-    };
     let mut at = 0;
     let mut n = 0;
     while at <= word.len() {
         let end = find(word, at, b',');
         let item = decimal(&word[at..end], 65535);
         if !item.good {
-            return bad;
+            return NONE;
         }
         if n >= numbers.len() {
-            return bad;
+            return NONE;
         }
         numbers[n] = item.value as u16;
         n += 1;

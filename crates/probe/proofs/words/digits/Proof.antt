@@ -7,10 +7,10 @@ use Rattle.probe.proofs.words.digits.Statement.{statement}
 use Rattle.probe.proofs.words.digits.Tie as tie
 
 abbrev Inv-loop : tie.InvT-loop
-Inv-loop word most bad value₀ i₀ value i = (i ≤ length word) × (value ≤ most)
+Inv-loop word most value₀ i₀ value i = (i ≤ length word) × (value ≤ most)
 
 abbrev μ-loop : tie.MeasureT-loop
-μ-loop word most bad value₀ i₀ value i = length word - i
+μ-loop word most value₀ i₀ value i = length word - i
 
 pub digits-spec : {M : Type 1} → statement M
 digits-spec =

@@ -8,10 +8,10 @@ use Rattle.probe.proofs.words.hex_pairs.Statement.{statement}
 use Rattle.probe.proofs.words.hex_pairs.Tie as tie
 
 abbrev Inv-loop : tie.InvT-loop
-Inv-loop word bytes₀ bad at₀ n₀ bytes at n = (length bytes ≡ length bytes₀) × (at ≤ length word) × (n ≤ length bytes₀)
+Inv-loop word bytes₀ at₀ n₀ bytes at n = (length bytes ≡ length bytes₀) × (at ≤ length word) × (n ≤ length bytes₀)
 
 abbrev μ-loop : tie.MeasureT-loop
-μ-loop word bytes₀ bad at₀ n₀ bytes at n = length word - at
+μ-loop word bytes₀ at₀ n₀ bytes at n = length word - at
 
 pub hex-pairs-spec : {M : Type 1} → statement M
 hex-pairs-spec =

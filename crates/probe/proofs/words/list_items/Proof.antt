@@ -8,10 +8,10 @@ use Rattle.probe.proofs.words.list_items.Statement.{statement}
 use Rattle.probe.proofs.words.list_items.Tie as tie
 
 abbrev Inv-loop : tie.InvT-loop
-Inv-loop word numbers₀ bad at₀ n₀ numbers at n = (length numbers ≡ length numbers₀) × (n ≤ length numbers₀)
+Inv-loop word numbers₀ at₀ n₀ numbers at n = (length numbers ≡ length numbers₀) × (n ≤ length numbers₀)
 
 abbrev μ-loop : tie.MeasureT-loop
-μ-loop word numbers₀ bad at₀ n₀ numbers at n = length word + 1 - at
+μ-loop word numbers₀ at₀ n₀ numbers at n = length word + 1 - at
 
 pub list-items-spec : {M : Type 1} → statement M
 list-items-spec =
