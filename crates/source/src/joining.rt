@@ -47,7 +47,8 @@ pub fn join_into(language: Language, line: &[u8], text: &mut [u8], map: &mut [u1
     let mut k = 0;
     while i < line.len() {
         let gone = cut_at(language, line, i);
-        if gone == 0 {
+        let stays = gone == 0;
+        if stays {
             text[k] = line[i];
             map[k] = i as u16;
             k += 1;

@@ -44,7 +44,7 @@ copy-content-spec =
     (λ c κs. search needs)
     (λ c. search needs)
     (λ c κs. fine (c .before))
-    (λ c κs. size (c .before .before .before))
+    (λ c κs. omega (arith, size (c .before .before .before)))
     (λ c. search needs)
     refused
     (λ c. search needs)

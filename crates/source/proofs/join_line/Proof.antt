@@ -47,9 +47,9 @@ join-line-spec =
     (λ c κs. search needs)
     (λ c. search needs)
     (λ c κs. omega (arith, fine (c .before .before)))
-    (λ c κs. sizes (c .before .before .before .before .before) .0)
+    (λ c κs. omega (arith, sizes (c .before .before .before .before .before)))
     (λ c. omega (arith, sizes (c .before .before .before .before .before .before .before .before .before)))
-    (λ c κs. sizes (c .before .before .before .before .before .before .before .before .before) .1)
+    (λ c κs. omega (arith, sizes (c .before .before .before .before .before .before .before .before .before)))
     (λ c. search needs)
     (λ c. search needs)
     refused

@@ -7,6 +7,7 @@ use native.Mathlib.Numerals.{add-one}
 use native.Mathlib.Omega.{arith}
 use lib.ListN.{length, take, drop, length-set}
 use lib.Seq.{length-take-le, take-suc-set}
+use borrow.Author.Tests.{eqb-true, eqb-false}
 use Rattle.ascii.proofs.Slots.{pushed}
 use Rattle.source.specs.Joining.{keptFrom, cutOf, byteOf, placeOf, joinedText, joinedMap}
 use Rattle.source.proofs.Kept.{kept-next, kept-jump, kept-end}
@@ -28,7 +29,8 @@ abbrev μ-loop : tie.MeasureT-loop
 loop-again : tie.Need-loop-again Inv-loop μ-loop
 loop-again c =
     let l : tie.In-loop Inv-loop μ-loop = c .before .before .before in
-    let none = sym (c .before .if1 .taken) ∙ c .before .before .cut-at .ensures .0 in
+    let gone = c .before .before .cut-at in
+    let none = sym (eqb-true (gone .result) 0 (c .before .if1 .taken)) ∙ gone .ensures .0 in
     let a : l .before .loop .k < length (l .before .loop .text) = omega arith in
     let b : l .before .loop .k < length (l .before .loop .map) = omega arith in (
       omega arith,
@@ -41,13 +43,15 @@ loop-again c =
 
 loop-again-2 : tie.Need-loop-again-2 Inv-loop μ-loop
 loop-again-2 c =
-    let l : tie.In-loop Inv-loop μ-loop = c .before .before in (
+    let l : tie.In-loop Inv-loop μ-loop = c .before .before in
+    let gone = c .before .cut-at in
+    let some = eqb-false (gone .result) 0 (c .if1 .left) in (
       omega arith,
       omega arith,
       omega arith,
       omega arith,
-      rw (← kept-jump, l .loop-test .taken, c .before .cut-at .ensures .0, c .if1 .left) (l .before .loop .inv .4),
-      rw (← kept-jump, l .loop-test .taken, c .before .cut-at .ensures .0, c .if1 .left) (l .before .loop .inv .5),
+      rw (← kept-jump, l .loop-test .taken, gone .ensures .0, some) (l .before .loop .inv .4),
+      rw (← kept-jump, l .loop-test .taken, gone .ensures .0, some) (l .before .loop .inv .5),
     )
 
 returns : tie.Need-returns Inv-loop μ-loop
@@ -77,7 +81,7 @@ join-into-spec =
     (λ c. omega arith)
     loop-again
     (λ c. omega arith)
-    (λ c. omega arith)
+    (λ c. omega (arith, eqb-false (c .before .cut-at .result) 0 (c .if1 .left)))
     loop-again-2
     (λ c. omega arith)
     (λ c. omega arith)
