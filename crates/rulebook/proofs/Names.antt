@@ -1,21 +1,29 @@
--- Names are equal where they have one length and one begins with the other.
+-- Names that compare equal, byte by byte: the laws of a loop over two names of one length, and of bytes that differ.
 -- Assumes nothing.
 use mathlib.Core.Path.{_≡_, refl, ap}
-use mathlib.Core.Bool.{Bool, true, false, _&&_}
+use mathlib.Core.Bool.{Bool, true, false, cond, _&&_}
 use mathlib.Core.List.{List, [], _∷_}
-use Prim.Native.Nat.{ℕ, suc}
+use Prim.Native.Nat.{ℕ, suc, _+_, _<_, _≤_}
+use native.Mathlib.Numerals.{add-one}
 use native.Mathlib.Omega.{arith}
-use lib.ListN.{length}
-use Rattle.ascii.specs.Text.{sameBy, begins}
+use lib.ListN.{length, drop, getD, drop-of-length-le}
+use lib.Seq.{drop-cons}
+use lib.Dec.{eqb}
+use borrow.Author.Tests.{ne-eqb}
+use Rattle.ascii.specs.Ascii.{isUpper, fold}
+use Rattle.ascii.specs.Text.{sameBy}
+
+-- bytes that fold alike are equal, or differ by 32
+pub fold-apart : (x y : ℕ) → (x ≡ y → ⊥) → (x + 32 ≡ y → ⊥) → (y + 32 ≡ x → ⊥) → eqb (fold x) (fold y) ≡ false
+fold-apart x y e f g = ne-eqb (fold x) (fold y) (go (isUpper x) (isUpper y))
+  where
+    go : (b d : Bool) → cond b (x + 32) x ≡ cond d (y + 32) y → ⊥
+    go true true h = e (omega arith)
+    go true false h = f h
+    go false true h = g (omega arith)
+    go false false h = e h
 
 module _ (f : ℕ → ℕ) where
-  pub same-begins : (a b : List ℕ) → length a ≡ length b → sameBy f a b ≡ begins f a b
-  unfolding sameBy begins
-  same-begins [] [] e = refl
-  same-begins [] (y ∷ ys) e = absurd (omega arith)
-  same-begins (x ∷ xs) [] e = absurd (omega arith)
-  same-begins (x ∷ xs) (y ∷ ys) e = rw (same-begins xs ys (omega arith))
-
   and-false : (b : Bool) → (b && false) ≡ false
   and-false true = refl
   and-false false = refl
@@ -26,3 +34,12 @@ module _ (f : ℕ → ℕ) where
   same-lengths [] (y ∷ ys) e = refl
   same-lengths (x ∷ xs) [] e = refl
   same-lengths (x ∷ xs) (y ∷ ys) e = rw (same-lengths xs ys (λ h. e (ap suc h)), and-false)
+
+  pub same-next : (a b : List ℕ) (i : ℕ) → i < length a → i < length b
+      → sameBy f (drop i a) (drop i b) ≡ (eqb (f (getD a i 0)) (f (getD b i 0)) && sameBy f (drop (i + 1) a) (drop (i + 1) b))
+  unfolding sameBy
+  same-next a b i h g = rw (add-one, drop-cons a i 0, drop-cons b i 0)
+
+  pub same-end : (a b : List ℕ) (i : ℕ) → length a ≤ i → length b ≤ i → sameBy f (drop i a) (drop i b) ≡ true
+  unfolding sameBy
+  same-end a b i h g = rw (drop-of-length-le a h, drop-of-length-le b g)

@@ -8,15 +8,34 @@ use crate::RuleByte;
 use crate::format::rule_for;
 use crate::format::wide;
 use ascii::Range;
-use ascii::begins_at;
+use ascii::class::fold;
 ghost use mathlib.Core.Path.{_≡_};
 ghost use Prim.Native.Nat.{_-_, _≤_};
 ghost use lib.ListN.{length, take, drop};
+ghost use lib.Dec.{eqb};
 ghost use Rattle.ascii.specs.Text.{sameBy, comparing};
 ghost use Rattle.rulebook.specs.Format.{ruleFor};
 ghost use Rattle.rulebook.specs.Book.{ruleSaid, nameAt, placeAfter, Laid, entriesIn, LaidIn, headerOf, bookOf};
 ghost use Rattle.rulebook.specs.Check.{HasForm};
 ghost use Rattle.rulebook.specs.Lookup.{findFrom, clauseEntry};
+
+// Whether two bytes compare equal. Bytes that differ, and not by the 32 between the cases, need no class.
+fn same_byte(a: u8, b: u8, ignore_case: bool) -> bool
+    ensures { λ r. ⌜ r ≡ eqb (comparing «ignore_case» a) (comparing «ignore_case» b) ⌝ }
+{
+    if a == b {
+        return true;
+    }
+    if !ignore_case {
+        return false;
+    }
+    let x = wide(a);
+    let y = wide(b);
+    if (x + 32 != y) & (y + 32 != x) {
+        return false;
+    }
+    fold(a) == fold(b)
+}
 
 // Whether two names are equal, with case ignored or not.
 pub fn same(a: &[u8], b: &[u8], ignore_case: bool) -> bool
@@ -25,7 +44,14 @@ pub fn same(a: &[u8], b: &[u8], ignore_case: bool) -> bool
     if a.len() != b.len() {
         return false;
     }
-    begins_at(b, 0, a, ignore_case)
+    let mut i = 0;
+    while i < a.len() {
+        if !same_byte(a[i], b[i], ignore_case) {
+            return false;
+        }
+        i += 1;
+    }
+    true
 }
 
 // The rule that a byte of a book says.
