@@ -6,11 +6,11 @@ use mathlib.Core.List.{List, [], _∷_, _++_}
 use Prim.Native.Nat.{ℕ, zero, suc, _+_, _<_, _≤_}
 use native.Mathlib.Numerals.{add-one}
 use native.Mathlib.Omega.{arith}
-use lib.ListN.{length}
+use lib.ListN.{length, getD}
 use Rattle.ascii.specs.declared.Range.{Range}
 use Rattle.ascii.specs.Text.{sameBy, part}
 use Rattle.rulebook.specs.declared.EntryFound.the-variants.{At, Nothing}
-use Rattle.rulebook.specs.Book.{nameAt, entryAt, entriesFrom, placeAfter, Laid}
+use Rattle.rulebook.specs.Book.{ruleLed, nameAt, entryAt, entriesFrom, placeAfter, Laid}
 use Rattle.rulebook.specs.Lookup.{findFrom}
 
 module _ (lead : ℕ) (bs : List ℕ) where
@@ -46,6 +46,15 @@ module _ (lead : ℕ) (bs : List ℕ) where
   pub place-next : (n m at : ℕ) (r : Range) → n ≡ m + 1 → r ≡ nameAt lead at bs → placeAfter lead n at bs ≡ placeAfter lead m (r .end) bs
   unfolding placeAfter
   place-next n m at r e q = rw (q, e, add-one)
+
+  pub entries-next : (n m at : ℕ) (r : Range) → n ≡ m + 1 → r ≡ nameAt lead at bs
+      → entriesFrom lead n at bs ≡ record { at = at; rule = ruleLed lead (getD bs at 0); name = part bs r } ∷ entriesFrom lead m (r .end) bs
+  unfolding entriesFrom
+  entries-next n m at r e q = rw (q, e, add-one m)
+
+  pub entries-none : (n at : ℕ) → n ≡ 0 → entriesFrom lead n at bs ≡ []
+  unfolding entriesFrom
+  entries-none n at e = rw e
 
   -- one more at the end
   pub entries-snoc : (k at : ℕ) → entriesFrom lead (k + 1) at bs ≡ entriesFrom lead k at bs ++ (entryAt lead (placeAfter lead k at bs) bs ∷ [])
