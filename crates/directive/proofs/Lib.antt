@@ -1,2 +1,5 @@
 pub mod SameNames
 pub mod Ends
+pub mod Agreeing
+pub mod Tallying
+pub mod Keeping

@@ -1,0 +1,87 @@
+-- The steps of the search for a name: a candidate in a buffer, its comparison with a name, the entries that it agrees with, and what follows a word.
+use Prim.Native.Nat.{ℕ, zero, suc, _+_, _≤_, _<_}
+use mathlib.Core.Bool.{Bool, true, false, cond, _&&_, _||_}
+use mathlib.Core.Option.{Option, some, none}
+use mathlib.Core.List.{List, [], _∷_}
+use lib.ListN.{length, take, drop}
+use lib.Dec.{leb}
+use Rattle.ascii.specs.Ascii.{isSpace}
+use Rattle.ascii.specs.Text.{leading, sameBy, comparing}
+use Rattle.lexer.specs.declared.Skipped.the-variants.{Past, OpenAt}
+use Rattle.lexer.specs.Trivia.{skip}
+use Rattle.rulebook.specs.Book.{Entry, Book}
+use Rattle.directive.specs.declared.Comparison.{Comparison}
+use Rattle.directive.specs.declared.Tally.{Tally}
+use Rattle.directive.specs.declared.Tally.the-variants.{Never, Once, Often}
+use Rattle.directive.specs.declared.Latest.{Latest}
+use Rattle.directive.specs.declared.Latest.the-variants.{Unnamed, Named}
+use Rattle.directive.specs.declared.Next.{Next}
+use Rattle.directive.specs.declared.Next.the-variants.{Word, End, Open}
+use Rattle.directive.specs.Name.{sameCompact, headFrom, Candidate, entryOf, mayGrow, startsWord}
+
+-- a text from a place on, past the blanks that a compact comparison does not see
+abbrev pub solidFrom : Bool → List ℕ → ℕ → ℕ
+solidFrom false xs at = at
+solidFrom true xs at = at + leading isSpace (drop at xs)
+
+-- two names are equal: without their blanks, or with case ignored or not
+abbrev pub sameIn : Bool → Bool → List ℕ → List ℕ → Bool
+sameIn true ignoreCase = sameCompact
+sameIn false ignoreCase = sameBy (comparing ignoreCase)
+
+-- a candidate equals a name, or one of its beginnings too
+abbrev pub agreed : Bool → Bool → Bool → List ℕ → List ℕ → Bool
+agreed true compact ignoreCase name candidate = headFrom (sameIn compact ignoreCase) [] name candidate
+agreed false compact ignoreCase name candidate = sameIn compact ignoreCase name candidate
+
+abbrev pub agreesIn : Comparison → List ℕ → List ℕ → Bool
+agreesIn how name candidate = agreed (how .heads) (how .compact) (how .«ignore_case») name candidate
+
+-- how many entries there were, with one more
+abbrev pub counted : Tally → Bool → ℕ → Tally
+counted t false i = t
+counted Never true i = Once i
+counted (Once k) true i = Often
+counted Often true i = Often
+
+-- none, one or more of the entries, counted from i, have a property
+unfoldable pub tallyFrom : (List ℕ → Bool) → Tally → ℕ → List Entry → Tally
+tallyFrom p t i [] = t
+tallyFrom p t i (e ∷ es) = tallyFrom p (counted t (p (e .name)) i) (suc i) es
+
+-- any of them
+abbrev pub anyOf : Tally → Bool
+anyOf Never = false
+anyOf (Once i) = true
+anyOf Often = true
+
+-- a candidate of at most 512 bytes
+abbrev pub fitting : List ℕ → Option (List ℕ)
+fitting c = cond (leb (length c) 512) (some c) none
+
+-- the candidate that is kept in a buffer with its length; a length above 512 says that it is longer
+abbrev pub keptIn : ℕ → List ℕ → Option (List ℕ)
+keptIn n buffer = cond (leb n 512) (some (take n buffer)) none
+
+-- a longer one is no name of a book, and no name begins with it
+abbrev pub entryIf : Book → Option (List ℕ) → Option ℕ
+entryIf book none = none
+entryIf book (some c) = entryOf book c
+
+abbrev pub growsIf : Book → Option (List ℕ) → Bool
+growsIf book none = false
+growsIf book (some c) = mayGrow book c
+
+-- what follows a word that ends at a place
+unfoldable pub nextIf : Book → List ℕ → ℕ → Option (List ℕ) → Next
+unfolding skip mayGrow
+nextIf book text end kept =
+    elim (skip (book .ignoresCase) text end) [
+      | OpenAt p ↦ Open p
+      | Past p ↦ cond (startsWord (drop p text) && growsIf book kept) (Word p) End
+    ]
+
+-- the last candidate that was a name
+abbrev pub latestOf : Latest → Option Candidate
+latestOf Unnamed = none
+latestOf (Named entry end) = some (record { entry = entry; end = end })
