@@ -1,22 +1,20 @@
 -- Laws of comparing a candidate with a name, byte by byte through the name, in the terms of a loop: a byte that hits, that does not count, that
 -- has no partner, that has one; the end of the name. The candidate goes in with its blanks taken out. Assumes nothing.
-use mathlib.Core.Path.{_≡_, refl, sym, ap, _∙_}
+use mathlib.Core.Path.{_≡_, refl, sym, _∙_}
 use mathlib.Core.Bool.{Bool, true, false, cond, _&&_, _||_}
 use mathlib.Core.List.{List, [], _∷_, _++_, append-nil, append-assoc}
-use Prim.Native.Nat.{ℕ, zero, suc, _+_, _-_, _<_, _≤_}
-use native.Mathlib.Nat.{add-zero}
+use Prim.Native.Nat.{ℕ, suc, _+_, _<_, _≤_}
 use native.Mathlib.Numerals.{add-one}
 use native.Mathlib.Omega.{arith}
-use lib.ListN.{length, drop, getD, drop-of-length-le, List·getD-eq-default}
+use lib.ListN.{length, drop, getD, drop-of-length-le}
 use lib.Seq.{drop-cons, drop-drop, getD-drop}
 use lib.Dec.{eqb}
 use borrow.Author.Tests.{eqb-true, eqb-false}
-use Rattle.ascii.specs.Ascii.{isSpace, fold}
+use Rattle.ascii.specs.Ascii.{isSpace}
 use Rattle.ascii.specs.Text.{leading, sameBy, comparing}
 use Rattle.ascii.proofs.Flags.{by-cases}
-use Rattle.directive.specs.declared.Comparison.{Comparison}
-use Rattle.directive.specs.Name.{compact, sameCompact, headFrom}
-use Rattle.directive.specs.Steps.{solidFrom, sameIn, agreed, agreesIn}
+use Rattle.directive.specs.Name.{compact, headFrom}
+use Rattle.directive.specs.Steps.{solidFrom, sameIn, agreed}
 
 -- a text with its blanks taken out or not
 unfoldable pub squeezed : Bool → List ℕ → List ℕ

@@ -3,3 +3,5 @@ pub mod Ends
 pub mod Agreeing
 pub mod Tallying
 pub mod Keeping
+pub mod Long
+pub mod Naming

@@ -1,10 +1,10 @@
 -- Laws of counting the entries that have a property, at a place of the book in the terms of a loop; and what a count says of the only one and of any.
 -- Assumes nothing.
-use mathlib.Core.Path.{_≡_, refl, sym, _∙_}
+use mathlib.Core.Path.{_≡_, refl, _∙_}
 use mathlib.Core.Bool.{Bool, true, false, cond, _&&_, _||_}
 use mathlib.Core.Option.{Option, some, none}
 use mathlib.Core.List.{List, [], _∷_}
-use Prim.Native.Nat.{ℕ, zero, suc, _+_}
+use Prim.Native.Nat.{ℕ, suc, _+_}
 use native.Mathlib.Numerals.{add-one}
 use Rattle.ascii.specs.declared.Range.{Range}
 use Rattle.ascii.specs.Text.{part, sameBy, comparing}

@@ -1,12 +1,13 @@
 -- The steps of the search for a name: a candidate in a buffer, its comparison with a name, the entries that it agrees with, and what follows a word.
-use Prim.Native.Nat.{ℕ, zero, suc, _+_, _≤_, _<_}
-use mathlib.Core.Bool.{Bool, true, false, cond, _&&_, _||_}
+use Prim.Native.Nat.{ℕ, suc, _+_, _≤_}
+use mathlib.Core.Bool.{Bool, true, false, cond, _&&_}
 use mathlib.Core.Option.{Option, some, none}
 use mathlib.Core.List.{List, [], _∷_}
 use lib.ListN.{length, take, drop}
 use lib.Dec.{leb}
 use Rattle.ascii.specs.Ascii.{isSpace}
 use Rattle.ascii.specs.Text.{leading, sameBy, comparing}
+use Rattle.lexer.specs.declared.Skipped.{Skipped}
 use Rattle.lexer.specs.declared.Skipped.the-variants.{Past, OpenAt}
 use Rattle.lexer.specs.Trivia.{skip}
 use Rattle.rulebook.specs.Book.{Entry, Book}
@@ -72,16 +73,22 @@ abbrev pub growsIf : Book → Option (List ℕ) → Bool
 growsIf book none = false
 growsIf book (some c) = mayGrow book c
 
--- what follows a word that ends at a place
+-- what follows a word that ends at a place: trivia first
+abbrev pub behind : (ℕ → Next) → Skipped → Next
+behind f (OpenAt p) = Open p
+behind f (Past p) = f p
+
 unfoldable pub nextIf : Book → List ℕ → ℕ → Option (List ℕ) → Next
-unfolding skip mayGrow
 nextIf book text end kept =
-    elim (skip (book .ignoresCase) text end) [
-      | OpenAt p ↦ Open p
-      | Past p ↦ cond (startsWord (drop p text) && growsIf book kept) (Word p) End
-    ]
+    behind (λ p. cond (startsWord (drop p text) && growsIf book kept) (Word p) End) (skip (book .ignoresCase) text end)
 
 -- the last candidate that was a name
 abbrev pub latestOf : Latest → Option Candidate
 latestOf Unnamed = none
 latestOf (Named entry end) = some (record { entry = entry; end = end })
+
+-- the place of what follows is not before a place, and not past n bytes
+abbrev pub Ahead : ℕ → ℕ → Next → Type 0
+Ahead at n (Word p) = (at ≤ p) × (p ≤ n)
+Ahead at n End = Unit {0}
+Ahead at n (Open p) = (at ≤ p) × (p ≤ n)

@@ -1,9 +1,8 @@
 -- `directive::candidate::copy_part` meets its contract: what is copied and what is still to come are the whole.
 -- Assumes nothing.
-use mathlib.Core.Path.{_≡_, refl, sym, _∙_}
+use mathlib.Core.Path.{_≡_, refl}
 use mathlib.Core.List.{_++_, append-nil}
 use Prim.Native.Nat.{_+_, _-_, _<_, _≤_}
-use native.Mathlib.Numerals.{add-one}
 use native.Mathlib.Omega.{arith}
 use lib.ListN.{length, take, drop, length-set}
 use Rattle.ascii.proofs.Slots.{pushed}

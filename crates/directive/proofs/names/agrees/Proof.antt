@@ -1,12 +1,11 @@
 -- `directive::names::agrees` meets its contract: what is left of the name agrees with what is left of the candidate as the whole ones do.
 -- Assumes nothing.
-use mathlib.Core.Path.{_≡_, refl, sym, ap, _∙_}
+use mathlib.Core.Path.{_≡_, sym, _∙_}
 use mathlib.Core.Bool.{Bool, true, false, _&&_, _||_}
 use mathlib.Core.List.{List, []}
-use Prim.Native.Nat.{ℕ, _+_, _-_, _<_, _≤_}
+use Prim.Native.Nat.{ℕ, _+_, _-_, _≤_}
 use native.Mathlib.Omega.{arith}
 use lib.ListN.{length, drop, getD}
-use lib.Dec.{eqb}
 use borrow.Author.Needs.{needs}
 use borrow.Author.Tests.{eqb-false, not-true, not-false}
 use Rattle.ascii.specs.Ascii.{isSpace}
@@ -65,10 +64,10 @@ loop-again c =
       l .inv .1,
       l .inv .2,
       sym
-      (name-blank (h .heads) (h .compact) (comparing (h .«ignore_case» || h .compact)) (a .candidate .now) (l .j) (a .name .now) (l .i) (t .loop-test .taken) (l .inv .1) (l .inv .2)
-      (c .before .before .if1 .left)
-      (blank (c .before) true (c .if2 .taken)))
-      ∙ l .inv .3,
+          (name-blank (h .heads) (h .compact) (comparing (h .«ignore_case» || h .compact)) (a .candidate .now) (l .j) (a .name .now) (l .i) (t .loop-test .taken) (l .inv .1) (l .inv .2)
+          (c .before .before .if1 .left)
+          (blank (c .before) true (c .if2 .taken)))
+          ∙ l .inv .3,
     )
 
 returns-2 : tie.Need-returns-2 Inv-loop μ-loop

@@ -7,7 +7,6 @@ use Rattle.ascii.specs.Text.{comparing}
 use Rattle.rulebook.specs.declared.EntryFound.the-variants.{Nothing}
 use Rattle.rulebook.specs.Book.{entriesIn}
 use Rattle.rulebook.specs.Lookup.{findFrom}
-use Rattle.directive.specs.Name.{entryOf}
 use Rattle.directive.proofs.Tallying.{entry-tallied}
 use Rattle.directive.proofs.names.entry_of.Statement.{statement}
 use Rattle.directive.proofs.names.entry_of.Tie as tie

@@ -1,11 +1,10 @@
 -- `directive::names::tally` meets its contract: what is left of the entries, counted on, gives the count of all of them.
 -- Assumes nothing.
-use mathlib.Core.Path.{_≡_, refl, sym, _∙_}
+use mathlib.Core.Path.{_≡_, sym, _∙_}
 use Prim.Native.Nat.{_+_, _-_, _<_, _≤_}
 use native.Mathlib.Omega.{arith}
 use lib.ListN.{length}
 use borrow.Author.Needs.{needs}
-use Rattle.ascii.specs.Text.{part}
 use Rattle.rulebook.specs.Book.{Laid, entriesFrom}
 use Rattle.rulebook.proofs.Laying.{laid-name, laid-next}
 use Rattle.directive.specs.declared.Tally.the-variants.{Never}
@@ -43,7 +42,7 @@ loop-again c =
       omega arith,
       next m .2,
       rw (c .counted .ensures, c .before .agrees .ensures)
-      (sym (tally-next (λ n. agreesIn (a .how) n (a .candidate .now)) (a .entries .lead) (a .book .now) (l .seen) (l .i) (n - l .i) (n - (l .i + 1)) (l .at) (m .name-at .result) (omega arith) (m .name-at .ensures)) ∙ l .inv .2),
+          (sym (tally-next (λ n. agreesIn (a .how) n (a .candidate .now)) (a .entries .lead) (a .book .now) (l .seen) (l .i) (n - l .i) (n - (l .i + 1)) (l .at) (m .name-at .result) (omega arith) (m .name-at .ensures)) ∙ l .inv .2),
     )
 
 pub tally-spec : {M : Type 1} → statement M
