@@ -1,3 +1,5 @@
 pub mod Laws
 pub mod Stack
 pub mod MatchLaws
+pub mod SplitLaws
+pub mod CallLaws

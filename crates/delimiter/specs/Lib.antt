@@ -1,3 +1,5 @@
 pub mod Code
 pub mod Bracket
 pub mod Matching
+pub mod Split
+pub mod Cutting
