@@ -3,3 +3,4 @@ pub mod Bracket
 pub mod Matching
 pub mod Split
 pub mod Cutting
+pub mod Examples
