@@ -3,7 +3,7 @@
 use Prim.Native.Nat.{ℕ}
 use mathlib.Core.Option.{none}
 use mathlib.Core.Path.{_≡_, refl}
-use mathlib.Core.List.{List, [], _∷_, _++_}
+use mathlib.Core.List.{List, [], _∷_}
 use Rattle.ascii.specs.Text.{bytes, leading, upTo, sameBy, begins, firstHigh}
 use Rattle.refusal.specs.Answer.{given}
 use Rattle.lexer.specs.declared.Language.the-variants.{C}
@@ -23,13 +23,8 @@ use Rattle.directive.specs.Name.{entryOf, headFrom, isHead, mayGrow, nameFrom, 
 use Rattle.reader.specs.declared.Reading.{Reading}
 use Rattle.reader.specs.Line.{openingC, parsed, lineAnswer}
 use Rattle.reader.specs.Calls.{LineCall, lineCall}
+use Rattle.reader.specs.Examples.{strict, withIf}
 use Rattle.reader.proofs.Appended.{appended-names-keep-readings}
-
-abbrev strict : List ℕ
-strict = bytes "DRB" ++ (0 ∷ 1 ∷ 0 ∷ 3 ∷ 1 ∷ 1 ∷ 8 ∷ bytes "parallel") ++ (0 ∷ 6 ∷ bytes "nowait")
-
-abbrev withIf : List ℕ
-withIf = bytes "DRB" ++ (0 ∷ 1 ∷ 0 ∷ 3 ∷ 1 ∷ 2 ∷ 8 ∷ bytes "parallel") ++ (0 ∷ 6 ∷ bytes "nowait") ++ (1 ∷ 2 ∷ bytes "if")
 
 appended : IsAppended (bookOf strict) (bookOf withIf)
 unfolding entriesFrom placeAfter clausesOf headerOf bookOf

@@ -9,14 +9,15 @@ use Rattle.ascii.specs.Text.{bytes, leading, upTo, trimmed, sameBy, begins, fir
 use Rattle.refusal.specs.Answer.{Answer, given, refused}
 use Rattle.delimiter.specs.declared.Separator.the-variants.{Comma, Colon}
 use Rattle.delimiter.specs.Code.{literal, blockEnd, piece, scanFrom}
+use Rattle.delimiter.specs.Bracket.{taken}
 use Rattle.delimiter.specs.Matching.{matchFrom, matching}
-use Rattle.delimiter.specs.Split.{nextSolid, splitFrom, split, flat, SplitCall, splitCall}
+use Rattle.delimiter.specs.Split.{nextSolid, bracketed, turned, splitFrom, split, flat, SplitCall, splitCall}
 use Rattle.lexer.specs.declared.Language.{Language}
 use Rattle.lexer.specs.declared.Language.the-variants.{C, FortranFree}
 use Rattle.lexer.specs.declared.Prefix.the-variants.{Omp}
 use Rattle.lexer.specs.Continuation.{breakC, breakF, sentinel, sentinelEnded, sentinelAny, eol, commentF, marker, lead}
 use Rattle.lexer.specs.Trivia.{triviaC, triviaF, skipFrom, skip}
-use Rattle.source.specs.Validation.{codeOutside, continuedF, checkLine, faultFrom, fault}
+use Rattle.source.specs.Validation.{codeLength, endsIn, continuedF, checkLine, faultFrom, fault}
 use Rattle.source.specs.Joining.{keptFrom, joinedText, joinedMap}
 use Rattle.source.specs.Calls.{JoinCall, joinAnswer, joinCall, spanAnswer}
 use Rattle.rulebook.specs.Format.{badFrom}
@@ -69,15 +70,15 @@ pub marked :
     × (commas [] ≡ noItems 15 0)
     × (colons (bytes "a:'x':b") ≡ items 1 ((0 ∷ 7 ∷ []) ++ replicate 6 0))
     × (colons (bytes "p?q::r:s") ≡ items 2 ((0 ∷ 6 ∷ 7 ∷ 8 ∷ []) ++ replicate 4 0))
-unfolding leading upTo trimmed begins firstHigh literal blockEnd piece scanFrom nextSolid splitFrom split flat splitCall breakC breakF sentinel sentinelEnded sentinelAny eol commentF marker lead codeOutside continuedF checkLine faultFrom fault keptFrom joinedText joinedMap joinAnswer joinCall
+unfolding leading upTo trimmed begins firstHigh literal blockEnd piece scanFrom taken nextSolid bracketed turned splitFrom split flat splitCall breakC breakF sentinel sentinelEnded sentinelAny eol commentF marker lead codeLength endsIn continuedF checkLine faultFrom fault keptFrom joinedText joinedMap joinAnswer joinCall
 marked = (refl, refl, refl, refl, refl, refl, refl, refl, refl, refl, refl, refl)
 
 -- "Strict" is a book with flags 0, `parallel`, and `nowait` Bare, default 3.
-abbrev strict : List ℕ
+abbrev pub strict : List ℕ
 strict = bytes "DRB" ++ (0 ∷ 1 ∷ 0 ∷ 3 ∷ 1 ∷ 1 ∷ 8 ∷ bytes "parallel") ++ (0 ∷ 6 ∷ bytes "nowait")
 
 -- "Table rows 7 to 14, and `if(a) 'b` below, take it with `if` Parenthesized appended."
-abbrev withIf : List ℕ
+abbrev pub withIf : List ℕ
 withIf = bytes "DRB" ++ (0 ∷ 1 ∷ 0 ∷ 3 ∷ 1 ∷ 2 ∷ 8 ∷ bytes "parallel") ++ (0 ∷ 6 ∷ bytes "nowait") ++ (1 ∷ 2 ∷ bytes "if")
 
 -- the same with bit 0 set
@@ -128,5 +129,5 @@ pub table :
           ∷ zeroRecord
           ∷ [];
     })
-unfolding leading upTo trimmed sameBy begins firstHigh literal blockEnd piece scanFrom matchFrom matching nextSolid splitFrom split flat splitCall breakC breakF sentinel sentinelEnded sentinelAny eol commentF marker lead triviaC triviaF skipFrom skip codeOutside continuedF checkLine faultFrom fault keptFrom joinedText joinedMap joinAnswer joinCall spanAnswer badFrom entriesFrom placeAfter clausesOf headerOf bookOf isNamed repeatFrom bookFault bookCall entryFrom ruleAt clauseAt sequenceFrom sequenceAt sequenceCall compact entriesWith entryOf headFrom isHead mayGrow nameFrom nameAt openingC openingF parsed lineAnswer lineCall
+unfolding leading upTo trimmed sameBy begins firstHigh literal blockEnd piece scanFrom matchFrom matching taken nextSolid bracketed turned splitFrom split flat splitCall breakC breakF sentinel sentinelEnded sentinelAny eol commentF marker lead triviaC triviaF skipFrom skip codeLength endsIn continuedF checkLine faultFrom fault keptFrom joinedText joinedMap joinAnswer joinCall spanAnswer badFrom entriesFrom placeAfter clausesOf headerOf bookOf isNamed repeatFrom bookFault bookCall entryFrom ruleAt clauseAt sequenceFrom sequenceAt sequenceCall compact entriesWith entryOf headFrom isHead mayGrow nameFrom nameAt openingC openingF parsed lineAnswer lineCall
 table = (refl, refl, refl, refl, refl, refl, refl, refl, refl, refl, refl, refl, refl, refl, refl, refl, refl, refl, refl, refl, refl, refl, refl, refl, refl)
