@@ -24,7 +24,7 @@ use Rattle.rulebook.proofs.Steps.{bad-here, bad-later, bad-end}
 pub never : {X : Type 0} (p : ℕ) → _≡_ {A = Option ℕ} (some p) none → X
 never p e = let z : _≡_ {A = ℕ} 0 1 = cc in absurd (omega arith)
 
-when-next : (b : Bool) (e next : Expect) → whenGood b e ≡ Next next → (b ≡ true) × (next ≡ e)
+pub when-next : (b : Bool) (e next : Expect) → whenGood b e ≡ Next next → (b ≡ true) × (next ≡ e)
 when-next true e next h = (refl, cc)
 when-next false e next h = let z : _≡_ {A = ℕ} 0 1 = cc in absurd (omega arith)
 

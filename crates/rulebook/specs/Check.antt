@@ -1,10 +1,9 @@
 -- The book check: the first fault of a book, row 4 of the table.
-use Prim.Native.Nat.{ℕ, _+_, _<_, _≤_}
+use Prim.Native.Nat.{ℕ}
 use mathlib.Core.Bool.{Bool, false, cond, _||_}
 use mathlib.Core.Option.{Option, some, none}
 use mathlib.Core.List.{List, [], _∷_, _++_}
 use mathlib.Core.Path.{_≡_}
-use lib.ListN.{length, take}
 use Rattle.ascii.specs.Ascii.{fold}
 use Rattle.ascii.specs.Text.{sameBy}
 use Rattle.refusal.specs.Answer.{Answer, given, refusedBy, unlessFault}
@@ -48,15 +47,3 @@ bookCall bs = unlessFault 4 (bookFault bs) (given tt)
 abbrev pub bookGives : BookAnswer → Answer (Unit {0})
 bookGives Valid = given tt
 bookGives (Refused r) = refusedBy r
-
--- a beginning of a book, repeats aside
-abbrev pub Begins : List ℕ → Type 0
-Begins bs = (rest : List ℕ) × HasForm (bs ++ rest)
-
--- "A byte is bad if, repeats aside, no book begins with the bytes up to it and itself": the place i that row 4 finds, repeats aside, is that of
--- the first such byte, or the end of a book that is cut. No book begins with the bytes up to and with the byte at i, if there is one; and one
--- begins with the bytes before it, and with any fewer of them.
-abbrev pub BadByteIsFirst : Type 0
-BadByteIsFirst =
-    (bs : List ℕ) (i : ℕ) → badFrom (HeaderByte 0) 0 bs ≡ some i
-    → (i ≤ length bs) × (i < length bs → Begins (take (i + 1) bs) → ⊥) × ((k : ℕ) → k ≤ i → Begins (take k bs))

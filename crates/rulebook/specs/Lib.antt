@@ -3,3 +3,4 @@ pub mod Book
 pub mod Check
 pub mod Lookup
 pub mod Examples
+pub mod Grammar
