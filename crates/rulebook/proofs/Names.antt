@@ -3,7 +3,7 @@
 use mathlib.Core.Path.{_≡_, refl, ap}
 use mathlib.Core.Bool.{Bool, true, false, cond, _&&_}
 use mathlib.Core.List.{List, [], _∷_}
-use Prim.Native.Nat.{ℕ, suc, _+_, _<_, _≤_}
+use Prim.Native.Nat.{ℕ, zero, suc, _+_, _<_, _≤_}
 use native.Mathlib.Numerals.{add-one}
 use native.Mathlib.Omega.{arith}
 use lib.ListN.{length, drop, getD, drop-of-length-le}
@@ -43,3 +43,11 @@ module _ (f : ℕ → ℕ) where
   pub same-end : (a b : List ℕ) (i : ℕ) → length a ≤ i → length b ≤ i → sameBy f (drop i a) (drop i b) ≡ true
   unfolding sameBy
   same-end a b i h g = rw (drop-of-length-le a h, drop-of-length-le b g)
+
+  -- two names that differ at a place
+  pub same-differ : (a b : List ℕ) (i : ℕ) → i < length a → i < length b → eqb (f (getD a i 0)) (f (getD b i 0)) ≡ false → sameBy f a b ≡ false
+  unfolding sameBy
+  same-differ [] b i h g e = absurd (omega arith)
+  same-differ (x ∷ xs) [] i h g e = absurd (omega arith)
+  same-differ (x ∷ xs) (y ∷ ys) zero h g e = rw e
+  same-differ (x ∷ xs) (y ∷ ys) (suc i) h g e = rw (same-differ xs ys i (omega arith) (omega arith) e, and-false)

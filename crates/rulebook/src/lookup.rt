@@ -41,11 +41,20 @@ fn same_byte(a: u8, b: u8, ignore_case: bool) -> bool
 pub fn same(a: &[u8], b: &[u8], ignore_case: bool) -> bool
     ensures { λ r. ⌜ r ≡ sameBy (comparing «ignore_case») (now (a .entry)) (now (b .entry)) ⌝ }
 {
-    if a.len() != b.len() {
+    let count = a.len();
+    if count != b.len() {
+        return false;
+    }
+    if count == 0 {
+        return true;
+    }
+    // names that count upwards differ at their end
+    let end = count - 1;
+    if !same_byte(a[end], b[end], ignore_case) {
         return false;
     }
     let mut i = 0;
-    while i < a.len() {
+    while i < count {
         if !same_byte(a[i], b[i], ignore_case) {
             return false;
         }
