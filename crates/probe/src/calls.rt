@@ -4,6 +4,7 @@ use crate::book;
 use crate::copy;
 use crate::join;
 use crate::print::Out;
+use crate::split;
 use crate::trim;
 use crate::words::part;
 use crate::words::same;
@@ -63,6 +64,7 @@ fn answer_call(
     let call = call_of(part(line, name));
     match call {
         Call::Trim => trim::answer(line, first, buffer, out),
+        Call::Split => split::answer(line, first, numbers, buffer, out),
         Call::Join => join::answer(line, first, bytes, numbers, buffer, out),
         Call::Back => back::answer(line, numbers, buffer, out),
         Call::Copy => copy::answer(line, first, bytes, buffer, out),

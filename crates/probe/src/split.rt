@@ -6,6 +6,8 @@ use crate::words::ends;
 use crate::words::hex_at;
 use crate::words::nth;
 use crate::words::slots_at;
+use delimiter::Separator;
+use delimiter::SplitAnswer;
 ghost use Prim.Native.Nat.{_≤_};
 
 // separator: 0 for the comma, 1 for the colon.
@@ -50,5 +52,22 @@ fn answer_split(
     out: Out,
 ) -> Out {
     fill_numbers(items);
-    out.not_yet(buffer).and_numbers(buffer, items)
+    let separator = separator_of(asked.separator);
+    let answer = delimiter::split_top_level(text, separator, asked.angles, items);
+    print_split(answer, buffer, out).and_numbers(buffer, items)
+}
+
+fn separator_of(number: usize) -> Separator {
+    if number == 0 {
+        Separator::Comma
+    } else {
+        Separator::Colon
+    }
+}
+
+fn print_split(answer: SplitAnswer, buffer: &mut [u8], out: Out) -> Out {
+    match answer {
+        SplitAnswer::Items(count) => out.ok(buffer).and_number(buffer, count),
+        SplitAnswer::Refused(refused) => out.refused(buffer, refused),
+    }
 }
