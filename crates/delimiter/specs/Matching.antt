@@ -1,5 +1,5 @@
 -- The parenthesis that matches an open one.
-use Prim.Native.Nat.{ℕ, zero}
+use Prim.Native.Nat.{ℕ, zero, _≤_, _<_}
 use mathlib.Core.Bool.{cond}
 use mathlib.Core.List.{List, [], _∷_}
 use Rattle.delimiter.specs.declared.CommentStyle.{CommentStyle}
@@ -35,3 +35,9 @@ matchIn s = unlessOpen (s .fault) (matchFrom (41 ∷ []) (s .codes))
 unfoldable pub matching : CommentStyle → ℕ → List ℕ → Match
 unfolding scanFrom matchFrom
 matching style at xs = matchIn (scanFrom style zero at xs)
+
+-- a match lies behind the open parenthesis, within a text of n bytes
+abbrev pub Closes : ℕ → ℕ → Match → Type 0
+Closes at n (ClosedAt p) = (at ≤ p) × (p < n)
+Closes at n Unmatched = Unit {0}
+Closes at n (DeepAt p) = (at ≤ p) × (p < n)

@@ -11,12 +11,13 @@ ghost use mathlib.Core.List.{[], _∷_};
 ghost use Prim.Native.Nat.{_≤_};
 ghost use lib.ListN.{length, drop};
 ghost use Rattle.delimiter.specs.Code.{scanAt};
-ghost use Rattle.delimiter.specs.Matching.{matchFrom, matching};
+ghost use Rattle.delimiter.specs.Matching.{matchFrom, matching, Closes};
 
 // The match of a parenthesis that is open before a place, by the code up to a literal or comment without an end.
 pub fn match_open(text: &[u8], at: usize, style: CommentStyle) -> Match
     requires { ⌜ at ≤ length (now text) ⌝ }
     ensures { λ r. ⌜ r ≡ matchFrom (41 ∷ []) (scanAt style (now (text .entry)) at .codes) ⌝ }
+    ensures { λ r. ⌜ Closes at (length (now (text .entry))) r ⌝ }
 {
     let mut open = OpenBrackets::new().push(Bracket::ROUND_CLOSE);
     let mut i = code::next_code(text, at, style);
@@ -51,6 +52,7 @@ pub fn match_open(text: &[u8], at: usize, style: CommentStyle) -> Match
 pub fn find_matching_parenthesis(text: &[u8], at: usize, style: CommentStyle) -> Match
     requires { ⌜ at ≤ length (now text) ⌝ }
     ensures { λ r. ⌜ r ≡ matching style at (drop at (now (text .entry))) ⌝ }
+    ensures { λ r. ⌜ Closes at (length (now (text .entry))) r ⌝ }
 {
     match code::first_unclosed(text, at, style) {
         Unclosed::Nothing => match_open(text, at, style),

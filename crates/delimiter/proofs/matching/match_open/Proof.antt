@@ -16,7 +16,8 @@ use Rattle.delimiter.proofs.matching.match_open.Tie as tie
 
 abbrev Inv-loop : tie.InvT-loop
 Inv-loop text at style open₀ i₀ «open» i =
-    (i ≤ length text)
+    (at ≤ i)
+    × (i ≤ length text)
     × (isEmpty (openOf «open») ≡ false)
     × (matchFrom (openOf «open») (onward style text i) ≡ matchFrom (41 ∷ []) (scanAt style text at .codes))
 
@@ -26,19 +27,19 @@ abbrev μ-loop : tie.MeasureT-loop
 loop-holds : tie.Need-loop-holds Inv-loop μ-loop
 loop-holds c =
     let o = c .before .push .ensures ∙ ap (λ r. 41 ∷ r) (c .before .before .new .ensures) in
-    (omega arith, rw o refl, rw (o, c .next-code .ensures .0) refl)
+    (omega arith, omega arith, rw o refl, rw (o, c .next-code .ensures .0) refl)
 
 returns : tie.Need-returns Inv-loop μ-loop
 returns c =
     let t : tie.After-take Inv-loop μ-loop = c .before .before in
     let l : tie.In-loop Inv-loop μ-loop = t .before .before .before .before in
-    sym (match-wrong _ _ _ _ (l .loop-test .taken) (sym (rw (c .enum-told2 .given .1) at (t .take .ensures)))) ∙ l .before .loop .inv .2
+    (sym (match-wrong _ _ _ _ (l .loop-test .taken) (sym (rw (c .enum-told2 .given .1) at (t .take .ensures)))) ∙ l .before .loop .inv .3, tt)
 
 returns-2 : tie.Need-returns-2 Inv-loop μ-loop
 returns-2 c =
     let t : tie.After-take Inv-loop μ-loop = c .before .before in
     let l : tie.In-loop Inv-loop μ-loop = t .before .before .before .before in
-    sym (match-deep _ _ _ _ (l .loop-test .taken) (sym (rw (c .enum-told3 .given .1) at (t .take .ensures)))) ∙ l .before .loop .inv .2
+    (sym (match-deep _ _ _ _ (l .loop-test .taken) (sym (rw (c .enum-told3 .given .1) at (t .take .ensures)))) ∙ l .before .loop .inv .3, omega arith)
 
 returns-3 : tie.Need-returns-3 Inv-loop μ-loop
 returns-3 c =
@@ -46,7 +47,7 @@ returns-3 c =
     let t : tie.After-take Inv-loop μ-loop = e .before .before in
     let l : tie.In-loop Inv-loop μ-loop = t .before .before .before .before in
     let h = sym (rw (e .enum-told .given .1) at (t .take .ensures)) in
-    sym (match-closed _ _ _ _ (l .loop-test .taken) _ h (sym (c .before .is-empty .ensures) ∙ c .if2 .taken)) ∙ l .before .loop .inv .2
+    (sym (match-closed _ _ _ _ (l .loop-test .taken) _ h (sym (c .before .is-empty .ensures) ∙ c .if2 .taken)) ∙ l .before .loop .inv .3, omega arith)
 
 loop-again : tie.Need-loop-again Inv-loop μ-loop
 loop-again c =
@@ -56,14 +57,14 @@ loop-again c =
     let l : tie.In-loop Inv-loop μ-loop = t .before .before .before .before in
     let h = sym (rw (e .enum-told .given .1) at (t .take .ensures)) in
     let some = sym (n .is-empty .ensures) ∙ c .before .if2 .left in
-    (omega arith, some, sym (match-goes _ _ _ _ (l .loop-test .taken) _ _ h some (c .next-code2 .ensures .0)) ∙ l .before .loop .inv .2)
+    (omega arith, omega arith, some, sym (match-goes _ _ _ _ (l .loop-test .taken) _ _ h some (c .next-code2 .ensures .0)) ∙ l .before .loop .inv .3)
 
 loop-again-2 : tie.Need-loop-again-2 Inv-loop μ-loop
 loop-again-2 c =
     let o : tie.After-is-one Inv-loop μ-loop = c .before .before in
     let l : tie.In-loop Inv-loop μ-loop = o .before .before in
     let i = l .before .loop .inv in
-    (omega arith, i .1, sym (match-plain _ _ _ _ (l .loop-test .taken) _ (sym (o .is-one .ensures) ∙ c .before .if1 .left) (i .1) (c .next-code3 .ensures .0)) ∙ i .2)
+    (omega arith, omega arith, i .2, sym (match-plain _ _ _ _ (l .loop-test .taken) _ (sym (o .is-one .ensures) ∙ c .before .if1 .left) (i .2) (c .next-code3 .ensures .0)) ∙ i .3)
 
 pub match-open-spec : {M : Type 1} → statement M
 match-open-spec =
@@ -93,4 +94,4 @@ match-open-spec =
     (λ c κs. omega arith)
     (λ c. omega arith)
     loop-again-2
-    (λ c. sym (match-end _ _ _ _ (c .loop-test .left)) ∙ c .before .loop .inv .2))
+    (λ c. (sym (match-end _ _ _ _ (c .loop-test .left)) ∙ c .before .loop .inv .3, tt)))
