@@ -3,3 +3,4 @@ pub mod Stack
 pub mod MatchLaws
 pub mod SplitLaws
 pub mod CallLaws
+pub mod WalkLaws
