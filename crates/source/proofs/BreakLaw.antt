@@ -1,4 +1,5 @@
--- Line breaks in a C text change neither the reading nor the joined text, and the map says where each byte stands. Assumes nothing.
+-- Line breaks in a C text do not change what is joined, and the map says where each byte stands: a broken text is woven, and its
+-- places follow gap by gap. Assumes nothing.
 use Prim.Native.Nat.{ℕ, zero, suc, _+_}
 use native.Mathlib.Nat.{add-zero, zero-add}
 use native.Mathlib.Omega.{arith}

@@ -1,4 +1,5 @@
--- Laws of leading runs and of validation, for every language. Assumes nothing.
+-- Laws of validation for every language: the fault of a line by what the check of its first physical line says, and that check in
+-- the places that the code reads at. Assumes nothing.
 use Prim.Native.Nat.{ℕ, zero, suc, _+_, _-_, _<_, _≤_}
 use native.Mathlib.Nat.{add-zero}
 use native.Mathlib.Omega.{arith}
@@ -11,19 +12,11 @@ use lib.Seq.{drop-cons, drop-drop, length-take-le}
 use lib.Dec.{eqb, ltb}
 use Rattle.ascii.specs.Ascii.{isBlank}
 use Rattle.ascii.specs.Text.{leading, isBlankText}
+use Rattle.ascii.proofs.Texts.{leading-le}
 use Rattle.lexer.specs.declared.Language.{Language}
 use Rattle.lexer.specs.declared.Prefix.{Prefix}
 use Rattle.source.specs.declared.Checked.the-variants.{Fine, WrongAt, Next}
 use Rattle.source.specs.Validation.{continued, foreign, lineLength, eolBytes, isOver, checkEnd, checkLine, faultFrom}
-
-pub leading-le : (q : ℕ → Bool) (xs : List ℕ) → leading q xs ≤ length xs
-unfolding leading
-leading-le q [] = omega arith
-leading-le q (x ∷ xs) = go (q x) (leading-le q xs)
-  where
-    go : (b : Bool) → leading q xs ≤ length xs → cond b (suc (leading q xs)) 0 ≤ suc (length xs)
-    go true h = omega arith
-    go false h = omega arith
 
 pub length-leading : (q : ℕ → Bool) (xs : List ℕ) → length (take (leading q xs) xs) ≡ leading q xs
 length-leading q xs = length-take-le (leading q xs) xs (leading-le q xs)

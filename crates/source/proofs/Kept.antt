@@ -1,4 +1,5 @@
--- Laws of keptFrom, for any rule of what is cut. Assumes nothing.
+-- Laws of keptFrom for any rule of what is cut, by the list and then at a place of a line: the next byte stays, a cut is passed
+-- over, the line is over. Assumes nothing.
 use Prim.Native.Nat.{ℕ, zero, suc, _+_, _<_, _≤_}
 use native.Mathlib.Nat.{add-zero}
 use native.Mathlib.Numerals.{add-one}

@@ -1,4 +1,5 @@
--- Joining a C line is translation phase 2: the bytes that go are those that stand in a break. Assumes nothing.
+-- Joining a C line is translation phase 2: the bytes that go are those that stand in a break. By induction over the places, with
+-- how many of the next ones go. Assumes nothing.
 use Prim.Native.Nat.{ℕ, zero, suc, _+_}
 use native.Mathlib.Nat.{add-zero}
 use native.Mathlib.Numerals.{add-one, add-two}

@@ -1,4 +1,5 @@
--- A C text with breaks in it, and what joining, validation and the calls make of it. Assumes nothing.
+-- A C text with breaks in it as a relation, and by induction over it what joining, validation and the call make of such a line.
+-- Assumes nothing.
 use Prim.Native.Nat.{ℕ, zero, suc, _+_, _≤_, _<_}
 use native.Mathlib.Omega.{arith}
 use mathlib.Core.Bool.{Bool, true, false, cond, not, and-false}

@@ -3,3 +3,4 @@ pub mod Joining
 pub mod Calls
 pub mod Verdicts
 pub mod Laws
+pub mod Examples
