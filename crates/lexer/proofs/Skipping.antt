@@ -5,7 +5,7 @@ use mathlib.Core.Bool.{Bool, true, false, cond, _&&_}
 use mathlib.Core.Option.{Option, some, none}
 use mathlib.Core.List.{List, [], _∷_}
 use Prim.Native.Nat.{ℕ, zero, suc, _+_, _-_, _<_, _≤_}
-use native.Mathlib.Nat.{add-zero, add-assoc}
+use native.Mathlib.Nat.{add-zero}
 use native.Mathlib.Numerals.{add-one}
 use native.Mathlib.Omega.{arith}
 use lib.ListN.{length, drop, getD, length-drop, drop-of-length-le}
@@ -18,25 +18,6 @@ use Rattle.lexer.specs.declared.Stretch.the-variants.{Run, Open}
 use Rattle.lexer.specs.declared.Skipped.the-variants.{Past, OpenAt}
 use Rattle.lexer.specs.Continuation.{breakC, breakF}
 use Rattle.lexer.specs.Trivia.{closed, isLineFeed, triviaC, triviaF, triviaOf, skipFrom}
-
-more-more : (n k : ℕ) (o : Option ℕ) → more n (more k o) ≡ more (n + k) o
-more-more n k none = refl
-more-more n k (some m) = rw add-assoc
-
--- the end of a block comment
-module _ (s : List ℕ) (i : ℕ) where
-  pub block-here : i < length s → (eqb (getD s i 0) 42 && eqb (getD s (i + 1) 0) 47) ≡ true → more i (blockEnd (drop i s)) ≡ some (i + 2)
-  unfolding blockEnd
-  block-here h e = rw (drop-cons s i 0) (simp (getD-drop, add-zero, rw add-one at e))
-
-  pub block-later : i < length s → (eqb (getD s i 0) 42 && eqb (getD s (i + 1) 0) 47) ≡ false
-      → more i (blockEnd (drop i s)) ≡ more (i + 1) (blockEnd (drop (i + 1) s))
-  unfolding blockEnd
-  block-later h e = rw (drop-cons s i 0, add-one) (simp (getD-drop, add-zero, rw add-one at e) (rw (more-more i 1, add-one)))
-
-  pub block-none : length s ≤ i → more i (blockEnd (drop i s)) ≡ none
-  unfolding blockEnd
-  block-none h = rw (drop-of-length-le s h)
 
 -- a block comment with its opening bytes, from where it ends
 pub closed-some : (at end : ℕ) (o : Option ℕ) → some end ≡ more (at + 2) o → Run (end - at) ≡ closed o

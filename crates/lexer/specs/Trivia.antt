@@ -5,8 +5,6 @@ use mathlib.Core.Option.{Option, some, none}
 use mathlib.Core.List.{List, [], _∷_}
 use lib.ListN.{drop, getD}
 use lib.Dec.{eqb, ltb}
-use Rattle.ascii.specs.declared.Found.{Found}
-use Rattle.ascii.specs.declared.Found.the-variants.{At, Nothing}
 use Rattle.ascii.specs.Ascii.{isSpace}
 use Rattle.ascii.specs.Text.{upTo}
 use Rattle.delimiter.specs.Code.{blockEnd}
@@ -67,8 +65,3 @@ Inside at n (OpenAt p) = (at ≤ p) × (p ≤ n)
 abbrev pub Fits : ℕ → ℕ → Stretch → Type 0
 Fits at n (Run k) = at + k ≤ n
 Fits at n Open = Unit {0}
-
--- a place that was found lies between two others
-abbrev pub Between : ℕ → ℕ → Found → Type 0
-Between from n (At i) = (from ≤ i) × (i ≤ n)
-Between from n Nothing = Unit {0}

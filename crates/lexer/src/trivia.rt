@@ -2,31 +2,13 @@
 use crate::Skipped;
 use crate::Stretch;
 use crate::continuation;
-use ascii::Found;
+use delimiter::End;
 ghost use mathlib.Core.Path.{_≡_};
 ghost use Prim.Native.Nat.{_+_, _<_, _≤_};
 ghost use lib.ListN.{length, drop};
-ghost use Rattle.ascii.specs.Text.{upTo, foundAt};
-ghost use Rattle.delimiter.specs.Code.{blockEnd, more};
-ghost use Rattle.lexer.specs.Trivia.{closed, isLineFeed, triviaC, triviaF, triviaOf, skip as skipOf, Inside, Fits, Between};
-
-// The end of a block comment, from a place inside it.
-fn block_end(text: &[u8], from: usize) -> Found
-    requires { ⌜ from ≤ length (now text) ⌝ }
-    ensures { λ r. ⌜ foundAt r ≡ more from (blockEnd (drop from (now (text .entry)))) ⌝ }
-    ensures { λ r. ⌜ Between from (length (now (text .entry))) r ⌝ }
-{
-    let mut i = from;
-    while i < text.len() {
-        let a = text[i];
-        let b = ascii::byte_at(text, i + 1);
-        if (a == 42) & (b == 47) {
-            return Found::At(i + 2);
-        }
-        i += 1;
-    }
-    Found::Nothing
-}
+ghost use Rattle.ascii.specs.Text.{upTo};
+ghost use Rattle.delimiter.specs.Code.{blockEnd};
+ghost use Rattle.lexer.specs.Trivia.{closed, isLineFeed, triviaC, triviaF, triviaOf, skip as skipOf, Inside, Fits};
 
 // The end of a line comment, from a place inside it: LF is its last byte.
 fn line_end(text: &[u8], from: usize) -> usize
@@ -50,9 +32,9 @@ fn block_comment(text: &[u8], at: usize) -> Stretch
     ensures { λ r. ⌜ r ≡ closed (blockEnd (drop (at + 2) (now (text .entry)))) ⌝ }
     ensures { λ r. ⌜ Fits at (length (now (text .entry))) r ⌝ }
 {
-    match block_end(text, at + 2) {
-        Found::At(end) => Stretch::Run(end - at),
-        Found::Nothing => Stretch::Open,
+    match delimiter::code::block_end(text, at + 2) {
+        End::Before(end) => Stretch::Run(end - at),
+        End::Never => Stretch::Open,
     }
 }
 
