@@ -5,3 +5,4 @@ pub mod Tallying
 pub mod Keeping
 pub mod Long
 pub mod Naming
+pub mod Placing

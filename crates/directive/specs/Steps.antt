@@ -1,5 +1,5 @@
 -- The steps of the search for a name: a candidate in a buffer, its comparison with a name, the entries that it agrees with, and what follows a word.
-use Prim.Native.Nat.{ℕ, suc, _+_, _≤_}
+use Prim.Native.Nat.{ℕ, suc, _+_, _≤_, _<_}
 use mathlib.Core.Bool.{Bool, true, false, cond, _&&_}
 use mathlib.Core.Option.{Option, some, none}
 use mathlib.Core.List.{List, [], _∷_}
@@ -18,6 +18,8 @@ use Rattle.directive.specs.declared.Latest.{Latest}
 use Rattle.directive.specs.declared.Latest.the-variants.{Unnamed, Named}
 use Rattle.directive.specs.declared.Next.{Next}
 use Rattle.directive.specs.declared.Next.the-variants.{Word, End, Open}
+use Rattle.directive.specs.declared.NameAnswer.{NameAnswer}
+use Rattle.directive.specs.declared.NameAnswer.the-variants.{Found, Refused}
 use Rattle.directive.specs.Name.{sameCompact, headFrom, Candidate, entryOf, mayGrow, startsWord}
 
 -- a text from a place on, past the blanks that a compact comparison does not see
@@ -92,3 +94,13 @@ abbrev pub Ahead : ℕ → ℕ → Next → Type 0
 Ahead at n (Word p) = (at ≤ p) × (p ≤ n)
 Ahead at n End = Unit {0}
 Ahead at n (Open p) = (at ≤ p) × (p ≤ n)
+
+-- the last name ends behind place start and not past n bytes, and its entry is one of at most 255
+abbrev pub Good : ℕ → ℕ → Option Candidate → Type 0
+Good start n none = Unit {0}
+Good start n (some f) = (start < f .end) × (f .end ≤ n) × (f .entry < 255)
+
+-- the same of an answer of a search that began at a place; a refusal's place is not before that, and not past n bytes
+abbrev pub Placed : ℕ → ℕ → NameAnswer → Type 0
+Placed at n (Found d) = (at ≤ d .start) × (d .start < d .end) × (d .end ≤ n) × (d .entry < 255)
+Placed at n (Refused r) = (at ≤ r .place) × (r .place ≤ n)

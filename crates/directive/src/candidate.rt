@@ -1,4 +1,5 @@
 // The candidate: the words of a name so far, with one blank between them, kept in a buffer of 512 bytes.
+// A longer one is no name and begins none: a name's length is one byte, and at least every second byte of a candidate is of a word.
 ghost use mathlib.Core.Path.{_≡_};
 ghost use mathlib.Core.List.{_++_};
 ghost use Prim.Native.Nat.{_+_, _-_, _≤_};

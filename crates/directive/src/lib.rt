@@ -22,7 +22,7 @@ ghost use Rattle.ascii.specs.Text.{foundAt};
 ghost use Rattle.rulebook.specs.Book.{LaidIn, headerOf, bookOf};
 ghost use Rattle.rulebook.specs.Check.{HasForm};
 ghost use Rattle.directive.specs.Name.{latest, orMissing, nameFrom, named, nameAt, nameGives};
-ghost use Rattle.directive.specs.Steps.{keptIn, entryIf, nextIf, latestOf, Ahead};
+ghost use Rattle.directive.specs.Steps.{keptIn, entryIf, nextIf, latestOf, Ahead, Placed};
 
 // The entry of a directive's name, and where the name stands in the text.
 pub struct DirectiveName {
@@ -156,8 +156,9 @@ fn search(
 ) -> NameAnswer
     requires { ⌜ header ≡ headerOf (now book) ⌝ }
     requires { ⌜ LaidIn (header .directives) (now book) ⌝ }
-    requires { ⌜ (start ≤ length (now text)) × (length (now buffer) ≡ 512) ⌝ }
+    requires { ⌜ (from ≤ start) × (start ≤ length (now text)) × (length (now buffer) ≡ 512) ⌝ }
     ensures { λ r. ⌜ nameGives r ≡ named start (nameFrom (bookOf (now (book .entry))) (now (text .entry)) from [] none 0 start (drop start (now (text .entry)))) ⌝ }
+    ensures { λ r. ⌜ Placed from (length (now (text .entry))) r ⌝ }
 {
     let mut place = start;
     let mut len = 0;
@@ -190,6 +191,7 @@ pub fn lex_name(book: &[u8], header: Header, text: &[u8], at: usize) -> NameAnsw
     requires { ⌜ header ≡ headerOf (now book) ⌝ }
     requires { ⌜ at ≤ length (now text) ⌝ }
     ensures { λ r. ⌜ nameGives r ≡ nameAt (bookOf (now (book .entry))) (now (text .entry)) at ⌝ }
+    ensures { λ r. ⌜ Placed at (length (now (text .entry))) r ⌝ }
 {
     match skip(text, at, header.ignores_case) {
         Skipped::OpenAt(p) => NameAnswer::Refused(Refusal {

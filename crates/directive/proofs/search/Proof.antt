@@ -12,9 +12,10 @@ use Rattle.ascii.specs.Ascii.{isWord}
 use Rattle.ascii.specs.Text.{leading}
 use Rattle.rulebook.specs.Book.{bookOf}
 use Rattle.directive.specs.Name.{entryOf, latest, extended, named, nameFrom}
-use Rattle.directive.specs.Steps.{keptIn, entryIf, growsIf, latestOf, Ahead}
+use Rattle.directive.specs.Steps.{keptIn, entryIf, growsIf, latestOf, Ahead, Good}
 use Rattle.directive.proofs.Long.{Spaced, Short, spaced-none, spaced-grown, short-book, entry-fits, grows-fits}
 use Rattle.directive.proofs.Naming.{turned, turn, name-stop, word-ahead, word-kept}
+use Rattle.directive.proofs.Placing.{good-latest, finished-placed}
 use Rattle.directive.proofs.search.Statement.{statement}
 use Rattle.directive.proofs.search.Tie as tie
 
@@ -25,6 +26,8 @@ Inv-loop book header text from start buffer₀ place₀ len₀ found₀ buffer p
     × (length buffer ≡ 512)
     × Spaced (take len buffer)
     × (nameFrom (bookOf book) text from (take len buffer) (latestOf found) 0 place (drop place text) ≡ nameFrom (bookOf book) text from [] none 0 start (drop start text))
+    × (start ≤ place)
+    × Good start (length text) (latestOf found)
 
 abbrev μ-loop : tie.MeasureT-loop
 μ-loop book header text from start buffer₀ place₀ len₀ found₀ buffer place len found = length text - place
@@ -66,6 +69,17 @@ remembered m =
     ∙ ap (λ (o : Option ℕ). latest o (w .before .before .run-end .result) (latestOf (w .before .before .before .before .before .loop .found)))
     (m .before .kept-entry .ensures ∙ ap (entryIf book) (w .push-word .ensures) ∙ entry-fits book (grown w) (short w) (spaced w))
 
+good : (m : tie.After-remember Inv-loop μ-loop) →
+    let a = m .before .before .before .before .before .before .before .before .before .before .before .before .before .before .args in
+    Good (a .start) (length (a .text .now)) (latestOf (m .remember .result))
+good m =
+    let w : tie.After-push-word Inv-loop μ-loop = m .before .before .before .before .before in
+    let a = w .before .before .before .before .before .before .before .before .before .args in
+    let l = w .before .before .before .before .before .loop in
+    rw (remembered m)
+    (good-latest (a .book .now) (grown w) (omega (arith, w .before .before .before .before .before .before .before .before .shared-slice-known .given 7)) (a .start) (length (a .text .now)) (w .before .before .run-end .result) (latestOf (l .found))
+    (omega (arith, ahead w, l .inv .5)) (w .before .before .run-end .ensures .1 .1) (l .inv .6))
+
 -- a turn of the loop is one of the search
 turns : (n : tie.After-next-word Inv-loop μ-loop) →
     let w : tie.After-push-word Inv-loop μ-loop = n .before .before .before .before .before .before .before in
@@ -101,28 +115,36 @@ loop-again c =
     let a = w .before .before .before .before .before .before .before .before .before .args in
     let e = c .before .p .given .1 in
     let k = word-kept (bookOf (a .book .now)) (a .text .now) (w .before .before .run-end .result) (c .before .p .given .0 .0) (w .push-word .result) (w .push-word .last .0) (grown w) (w .push-word .ensures) (sym (n .next-word .ensures .0) ∙ e) in
-    (follows c .1, k .0, omega arith, rw (k .1) (spaced w), rw (k .1) (rw e at (turns n)))
+    (follows c .1, k .0, omega arith, rw (k .1) (spaced w), rw (k .1) (rw e at (turns n)), omega (arith, ahead w, follows c), good (n .before .before))
 
 returns : tie.Need-returns Inv-loop μ-loop
 returns c =
     let n : tie.After-next-word Inv-loop μ-loop = c .before .before .before in
     let a = n .before .before .before .before .before .before .before .before .before .before .before .before .before .before .before .before .args in
-    c .finish .ensures ∙ ap (named (a .start)) (rw (c .before .enum-told .given .1) at (turns n))
+    let p = n .before .before .before .before .before .before .before .before .before .before .before .before .before .before .before .before .pre .1 .1 in (
+      c .finish .ensures ∙ ap (named (a .start)) (rw (c .before .enum-told .given .1) at (turns n)),
+      finished-placed (a .from) (a .start) (length (a .text .now)) (latestOf (n .before .before .remember .result)) (c .finish .result) (c .finish .ensures) (p .0) (p .1) (good (n .before .before)),
+    )
 
 returns-2 : tie.Need-returns-2 Inv-loop μ-loop
 returns-2 c =
     let n : tie.After-next-word Inv-loop μ-loop = c .before .before .before in
     let a = n .before .before .before .before .before .before .before .before .before .before .before .before .before .before .before .before .args in
-    ap (named (a .start)) (rw (c .before .p2 .given .1) at (turns n))
+    let w : tie.After-push-word Inv-loop μ-loop = n .before .before .before .before .before .before .before in
+    let i = subst (Ahead (w .before .before .run-end .result) (length (a .text .now))) (c .before .p2 .given .1) (n .next-word .ensures .1) in
+    (ap (named (a .start)) (rw (c .before .p2 .given .1) at (turns n)), (omega (arith, i .0, ahead w, w .before .before .before .before .before .loop .inv .5, n .before .before .before .before .before .before .before .before .before .before .before .before .before .before .before .before .pre .1 .1 .0), i .1))
 
 returns-3 : tie.Need-returns-3 Inv-loop μ-loop
 returns-3 c =
     let t : tie.After-starts-word Inv-loop μ-loop = c .before .before in
     let l = t .before .loop in
     let a = t .before .before .before .before .before .args in
-    c .finish2 .ensures
-    ∙ ap (named (a .start))
-    (sym (name-stop (bookOf (a .book .now)) (a .text .now) (a .from) (take (l .len) (l .buffer)) (latestOf (l .found)) (l .place) (sym (t .starts-word .ensures) ∙ c .before .if1 .left)) ∙ l .inv .4)
+    let p = t .before .before .before .before .before .pre .1 .1 in (
+      c .finish2 .ensures
+          ∙ ap (named (a .start))
+          (sym (name-stop (bookOf (a .book .now)) (a .text .now) (a .from) (take (l .len) (l .buffer)) (latestOf (l .found)) (l .place) (sym (t .starts-word .ensures) ∙ c .before .if1 .left)) ∙ l .inv .4),
+      finished-placed (a .from) (a .start) (length (a .text .now)) (latestOf (l .found)) (c .finish2 .result) (c .finish2 .ensures) (p .0) (p .1) (l .inv .6),
+    )
 
 pub search-spec : {M : Type 1} → statement M
 search-spec =
@@ -130,7 +152,7 @@ search-spec =
     (tie.spec
     Inv-loop
     μ-loop
-    (λ c. (omega arith, omega arith, omega arith, spaced-none, refl))
+    (λ c. (omega arith, omega arith, omega arith, spaced-none, refl, omega arith, tt))
     (λ c κs. search needs)
     (λ c κs. omega arith)
     (λ c κs. (omega arith, omega arith))
