@@ -1,3 +1,11 @@
 pub mod Turns
 pub mod Rest
 pub mod Appended
+pub mod Walking
+pub mod Filling
+pub mod Lending
+pub mod Properness
+pub mod Sequencing
+pub mod Starting
+pub mod Extents
+pub mod Reading

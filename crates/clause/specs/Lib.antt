@@ -2,3 +2,4 @@ pub mod Clause
 pub mod Sequence
 pub mod Calls
 pub mod Laws
+pub mod Steps

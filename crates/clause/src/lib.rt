@@ -1,5 +1,13 @@
 // Clauses: one clause under a book's rule, and the sequence of clauses.
+pub mod records;
+pub mod single;
+pub mod steps;
+
 use refusal::Refusal;
+use rulebook::Header;
+ghost use mathlib.Core.Path.{_≡_};
+ghost use lib.ListN.{length};
+ghost use Rattle.clause.specs.Calls.{SequenceCall, sequenceCall, sequenceGives};
 
 // What is recorded of a clause: offsets of the joined text, its entry in the book, and its commas.
 // A zeroed record is bare with every number 0.
@@ -28,4 +36,55 @@ pub struct SequenceEnd {
 pub enum SequenceAnswer {
     Read(SequenceEnd),
     Refused(Refusal),
+}
+
+// A clause's word: its range of the text, and its entry in the book, 65,535 for none.
+pub struct ClauseWord {
+    pub start: usize,
+    pub end: usize,
+    pub entry: u16,
+}
+
+// What was read at a place: a clause with the place after it, a failure that the default rule judges, or the 257th bracket open.
+pub enum ClauseRead {
+    Clause(ClauseRecord, usize),
+    Failed(Refusal),
+    Deep(usize),
+}
+
+// What follows a clause: a place, with or without a comma on the way, or an open comment.
+pub enum Separation {
+    Then(bool, usize),
+    OpenAt(usize),
+}
+
+// How far a sequence has come: more is to be read, the list has ended, or it is refused.
+pub enum Progress {
+    Going,
+    Ended,
+    Refused(Refusal),
+}
+
+// A sequence between two clauses.
+pub struct SequenceState {
+    // the record for the slot of the last step, zeroed if that step read no clause
+    pub clause: ClauseRecord,
+    pub header: Header,
+    pub progress: Progress,
+    pub at: usize,
+    // a comma stands before the place
+    pub comma: bool,
+    // slots left, as a number: whether one is left is asked as soon as a clause is read
+    pub left: usize,
+    // clauses read
+    pub count: usize,
+}
+
+// The clauses of a text into the lent slots. Refusals 1, 2 and 4, then 8 and 10 to 14 in reading order.
+pub fn parse_sequence(book: &[u8], text: &[u8], records: &mut [ClauseRecord]) -> SequenceAnswer
+    ensures { λ r. ⌜ record { answer = sequenceGives r; records = now (records .exit) }
+        ≡ sequenceCall (now (book .entry)) (now (text .entry)) (length (now (records .entry))) ⌝ }
+{
+    let start = steps::start(book, text, records.len());
+    records::read_from(book, text, start, records)
 }

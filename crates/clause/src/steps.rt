@@ -1,0 +1,238 @@
+// The sequence of clauses as steps over a state by value.
+use crate::ClauseRead;
+use crate::ClauseRecord;
+use crate::Progress;
+use crate::Separation;
+use crate::SequenceAnswer;
+use crate::SequenceEnd;
+use crate::SequenceState;
+use crate::records;
+use crate::single;
+use lexer::Skipped;
+use refusal::Reason;
+use refusal::Refusal;
+use refusal::Verdict;
+use rulebook::BookAnswer;
+use rulebook::ClauseRule;
+use rulebook::Entries;
+use rulebook::Header;
+ghost use mathlib.Core.Path.{_≡_};
+ghost use mathlib.Core.Bool.{cond};
+ghost use mathlib.Core.Option.{none};
+ghost use Prim.Native.Nat.{_≤_, _<_};
+ghost use lib.ListN.{length};
+ghost use lib.Dec.{eqb};
+ghost use Rattle.refusal.specs.Answer.{maxLength};
+ghost use Rattle.rulebook.specs.Book.{bookOf};
+ghost use Rattle.rulebook.specs.Check.{bookFault};
+ghost use Rattle.clause.specs.Sequence.{separated, isUnsupported};
+ghost use Rattle.clause.specs.Steps.{flagBook, Proper, Ready, noHeader, begun as begunOf, refusedStart, startAt, startOf, still as stillOf, stopped as stoppedOf, gone as goneOf, behind as behindOf, onward as onwardOf, nextState, answerOf, keptOf};
+
+// The header where a book has none.
+fn no_header() -> Header
+    ensures { λ r. ⌜ r ≡ noHeader ⌝ }
+{
+    let none = Entries {
+        lead: 0,
+        first: 0,
+        count: 0,
+    };
+    Header {
+        ignores_case: false,
+        optional_blanks: false,
+        default_rule: ClauseRule::Bare,
+        directives: none,
+        clauses: none,
+    }
+}
+
+fn begun(header: Header, progress: Progress, at: usize, slots: usize) -> SequenceState
+    ensures { λ r. ⌜ r ≡ begunOf header progress at slots ⌝ }
+{
+    SequenceState {
+        clause: records::zero_record(),
+        header,
+        progress,
+        at,
+        comma: false,
+        left: slots,
+        count: 0,
+    }
+}
+
+fn refused_start(slots: usize, refusal: Refusal) -> SequenceState
+    ensures { λ r. ⌜ r ≡ refusedStart slots refusal ⌝ }
+{
+    begun(no_header(), Progress::Refused(refusal), 0, slots)
+}
+
+// The start at a place of a text, under a book that is valid, with so many slots.
+pub fn start_at(book: &[u8], text: &[u8], at: usize, slots: usize) -> SequenceState
+    requires { ⌜ (bookFault (now book) ≡ none) × ((length (now text) ≤ maxLength) × (at ≤ length (now text))) ⌝ }
+    ensures { λ r. ⌜ r ≡ startAt (now (book .entry)) (now (text .entry)) slots at ⌝ }
+{
+    let header = rulebook::lookup::read_header(book);
+    match lexer::trivia::skip(text, at, header.ignores_case) {
+        Skipped::Past(place) => begun(header, Progress::Going, place, slots),
+        Skipped::OpenAt(place) => begun(
+            header,
+            Progress::Refused(Refusal {
+                reason: Reason::UnclosedComment,
+                place,
+            }),
+            place,
+            slots,
+        ),
+    }
+}
+
+// The start of a text: refusals 1, 2 and 4 before it.
+pub fn start(book: &[u8], text: &[u8], slots: usize) -> SequenceState
+    ensures { λ r. ⌜ r ≡ startOf (now (book .entry)) (now (text .entry)) slots ⌝ }
+{
+    match refusal::check_text(text) {
+        Verdict::Bad(refusal) => refused_start(slots, refusal),
+        Verdict::Fine => match rulebook::check_book(book) {
+            BookAnswer::Refused(refusal) => refused_start(slots, refusal),
+            BookAnswer::Valid => start_at(book, text, 0, slots),
+        },
+    }
+}
+
+// The state at the same place, with no record for the slot of this step.
+fn still(s: SequenceState, progress: Progress) -> SequenceState
+    ensures { λ r. ⌜ r ≡ stillOf s progress ⌝ }
+{
+    let header = s.header;
+    SequenceState {
+        clause: records::zero_record(),
+        header,
+        progress,
+        at: s.at,
+        comma: s.comma,
+        left: s.left,
+        count: s.count,
+    }
+}
+
+fn stopped(s: SequenceState, reason: Reason, place: usize) -> SequenceState
+    ensures { λ r. ⌜ r ≡ stoppedOf s reason place ⌝ }
+{
+    still(s, Progress::Refused(Refusal { reason, place }))
+}
+
+// The default rule judges a clause that fails.
+fn judged(s: SequenceState, refusal: Refusal) -> SequenceState
+    ensures { λ r. ⌜ r ≡ cond (isUnsupported (s .header .«default_rule»)) (stillOf s (Progress.Refused refusal)) (stillOf s Progress.Ended) ⌝ }
+{
+    let header = s.header;
+    let rule = header.default_rule;
+    match rule {
+        ClauseRule::Unsupported => still(s, Progress::Refused(refusal)),
+        ClauseRule::Bare => still(s, Progress::Ended),
+        ClauseRule::Parenthesized => still(s, Progress::Ended),
+        ClauseRule::Flexible => still(s, Progress::Ended),
+    }
+}
+
+// Past a clause and its separator.
+fn gone(
+    size: usize,
+    s: SequenceState,
+    clause: ClauseRecord,
+    comma: bool,
+    next: usize,
+) -> SequenceState
+    requires { ⌜ (0 < s .left) × (s .count ≤ maxLength) ⌝ }
+    ensures { λ r. ⌜ r ≡ goneOf size s clause comma next ⌝ }
+{
+    let header = s.header;
+    let mut flagged = clause;
+    flagged.preceded = s.comma;
+    flagged.trailing = comma & (next == size);
+    SequenceState {
+        clause: flagged,
+        header,
+        progress: Progress::Going,
+        at: next,
+        comma,
+        left: s.left - 1,
+        count: s.count + 1,
+    }
+}
+
+// A clause that was read, up to a place: a slot for it, and what follows.
+fn took(text: &[u8], s: SequenceState, clause: ClauseRecord, end: usize) -> SequenceState
+    requires { ⌜ (end ≤ length (now text)) × (s .count ≤ maxLength) ⌝ }
+    ensures { λ r. ⌜ r ≡ cond (eqb (s .left) 0) (stoppedOf s Reason.NoSlot (s .at))
+        (behindOf (length (now (text .entry))) s clause (separated (flagBook (s .header .«ignores_case»)) (now (text .entry)) end)) ⌝ }
+{
+    if s.left == 0 {
+        return stopped(s, Reason::NoSlot, s.at);
+    }
+    let header = s.header;
+    match single::separation(text, end, header.ignores_case) {
+        Separation::Then(comma, next) => gone(text.len(), s, clause, comma, next),
+        Separation::OpenAt(place) => stopped(s, Reason::UnclosedComment, place),
+    }
+}
+
+// One clause more, where the sequence goes on.
+fn onward(book: &[u8], text: &[u8], s: SequenceState) -> SequenceState
+    requires { ⌜ Ready (now book) (now text) s ⌝ }
+    ensures { λ r. ⌜ r ≡ onwardOf (bookOf (now (book .entry))) (now (text .entry)) s Progress.Going ⌝ }
+{
+    let at = s.at;
+    if at == text.len() {
+        return still(s, Progress::Ended);
+    }
+    let header = s.header;
+    match single::read_clause(book, header, text, at) {
+        ClauseRead::Clause(clause, end) => took(text, s, clause, end),
+        ClauseRead::Failed(refusal) => judged(s, refusal),
+        ClauseRead::Deep(place) => stopped(s, Reason::TooDeep, place),
+    }
+}
+
+// The state after one clause more; its record is for the next slot.
+pub fn next_clause(book: &[u8], text: &[u8], s: SequenceState) -> SequenceState
+    requires { ⌜ Proper (now book) (now text) s ⌝ }
+    ensures { λ r. ⌜ r ≡ nextState (now (book .entry)) (now (text .entry)) s ⌝ }
+{
+    let progress = s.progress;
+    match progress {
+        Progress::Going => onward(book, text, s),
+        Progress::Ended => still(s, Progress::Ended),
+        Progress::Refused(refusal) => still(s, Progress::Refused(refusal)),
+    }
+}
+
+// The answer, once a step more than there are slots has told whether a clause is left.
+pub fn finish(book: &[u8], text: &[u8], s: SequenceState) -> SequenceAnswer
+    requires { ⌜ Proper (now book) (now text) s ⌝ }
+    ensures { λ r. ⌜ r ≡ answerOf (nextState (now (book .entry)) (now (text .entry)) s) ⌝ }
+{
+    let last = next_clause(book, text, s);
+    let progress = last.progress;
+    match progress {
+        Progress::Going => SequenceAnswer::Read(SequenceEnd {
+            count: last.count,
+            rest: last.at,
+        }),
+        Progress::Ended => SequenceAnswer::Read(SequenceEnd {
+            count: last.count,
+            rest: last.at,
+        }),
+        Progress::Refused(refusal) => SequenceAnswer::Refused(refusal),
+    }
+}
+
+// How many of the slots keep their records.
+pub fn kept(answer: SequenceAnswer, size: usize) -> usize
+    ensures { λ r. ⌜ r ≡ keptOf size answer ⌝ }
+{
+    match answer {
+        SequenceAnswer::Read(_) => size,
+        SequenceAnswer::Refused(_) => 0,
+    }
+}
