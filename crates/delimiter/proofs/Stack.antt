@@ -10,7 +10,8 @@ use lib.Dec.{eqb, eqb·suc-zero}
 use lib.ListN.{length, getD, set}
 use lib.Seq.{getD-set-same, getD-set-other}
 use Rattle.ascii.proofs.Flags.{or-none}
-use Rattle.delimiter.specs.Bracket.{isOpening, isClosing, isBracket, isEmpty, held, taken, stacked}
+use Rattle.delimiter.specs.declared.OpenBrackets.{OpenBrackets}
+use Rattle.delimiter.specs.Bracket.{isOpening, isClosing, isBracket, isEmpty, held, taken, stacked, openOf}
 
 pub length-stacked : (ks : List ℕ) (d : ℕ) → length (stacked ks d) ≡ d
 length-stacked ks zero = refl
@@ -19,6 +20,10 @@ length-stacked ks (suc d) = ap suc (length-stacked ks d)
 pub empty-stacked : (ks : List ℕ) (d : ℕ) → eqb d 0 ≡ isEmpty (stacked ks d)
 empty-stacked ks zero = refl
 empty-stacked ks (suc d) = eqb·suc-zero d
+
+pub empty-open : (o : OpenBrackets) → eqb (o .depth) 0 ≡ isEmpty (openOf o)
+unfolding openOf
+empty-open o = empty-stacked (o .closing) (o .depth)
 
 -- a store above leaves the stack
 stacked-set : (ks : List ℕ) (i v d : ℕ) → d ≤ i → stacked (set ks i v) d ≡ stacked ks d

@@ -243,7 +243,8 @@ fn segment_end(text: &[u8], from: usize, before: u8, separator: Separator, angle
             previous = solid(b, previous);
             i = code::next_code(text, i + 1, CommentStyle::Block);
         } else {
-            match turn(text, i, separator, open.is_empty(), ternary, previous) {
+            let depth = open.depth;
+            match turn(text, i, separator, depth == 0, ternary, previous) {
                 Turn::Ends => {
                     return Segment::Upto(i);
                 }

@@ -10,6 +10,7 @@ use Rattle.delimiter.specs.declared.CommentStyle.the-variants.{Block}
 use Rattle.delimiter.specs.Code.{scanAt, onward}
 use Rattle.delimiter.specs.Bracket.{openOf}
 use Rattle.delimiter.specs.Split.{fresh, splitFrom}
+use Rattle.delimiter.proofs.Stack.{empty-open}
 use Rattle.delimiter.proofs.SplitLaws.{is-held, last-cuts, split-refused, split-mark, split-goes, split-ends, split-end}
 use Rattle.delimiter.proofs.split.segment_end.Statement.{statement}
 use Rattle.delimiter.proofs.split.segment_end.Tie as tie
@@ -59,20 +60,20 @@ loop-again c =
 returns-2 : tie.Need-returns-2 Inv-loop μ-loop
 returns-2 c =
     let t : tie.After-turn Inv-loop μ-loop = c .before .before in
-    let m : tie.After-is-mark Inv-loop μ-loop = t .before .before .before in
+    let m : tie.After-is-mark Inv-loop μ-loop = t .before .before in
     let l : tie.In-loop Inv-loop μ-loop = m .before .before in
-    let plain = sym (m .is-mark .ensures) ∙ t .before .before .if1 .left in
-    let ends = sym (rw (t .before .is-empty .ensures) at (t .turn .ensures .0)) ∙ c .enum-told .given .1 in
+    let plain = sym (m .is-mark .ensures) ∙ t .before .if1 .left in
+    let ends = sym (rw (empty-open (l .before .loop .«open»)) at (t .turn .ensures .0)) ∙ c .enum-told .given .1 in
     (λ room. l .before .loop .inv .3 room ∙ split-ends _ _ _ _ _ _ (l .loop-test .taken) plain ends, omega arith)
 
 loop-again-2 : tie.Need-loop-again-2 Inv-loop μ-loop
 loop-again-2 c =
     let w : tie.After-waiting Inv-loop μ-loop = c .before .before .before in
     let t : tie.After-turn Inv-loop μ-loop = w .before .before in
-    let m : tie.After-is-mark Inv-loop μ-loop = t .before .before .before in
+    let m : tie.After-is-mark Inv-loop μ-loop = t .before .before in
     let l : tie.In-loop Inv-loop μ-loop = m .before .before in
-    let plain = sym (m .is-mark .ensures) ∙ t .before .before .if1 .left in
-    let goes = sym (rw (t .before .is-empty .ensures) at (t .turn .ensures .0)) ∙ w .waiting .given .1 in
+    let plain = sym (m .is-mark .ensures) ∙ t .before .if1 .left in
+    let goes = sym (rw (empty-open (l .before .loop .«open»)) at (t .turn .ensures .0)) ∙ w .waiting .given .1 in
     let few = rw (w .waiting .given .1) at (t .turn .ensures .1) in (
       omega arith,
       omega arith,
@@ -108,7 +109,6 @@ segment-end-spec =
     (λ c κs. omega arith)
     (λ c. omega arith)
     loop-again
-    (λ c κs. search needs)
     (λ c κs. omega arith)
     (λ c. search needs)
     returns-2
