@@ -23,7 +23,7 @@ use Rattle.rulebook.specs.Book.{bookOf, headerOf}
 use Rattle.rulebook.specs.Check.{bookFault}
 use Rattle.clause.specs.Sequence.{sequenceAt}
 use Rattle.clause.specs.Calls.{sequenceCall}
-use Rattle.clause.specs.Steps.{Started, begunAt, startAt, startUnder, startBy, startOf, readOn, settled}
+use Rattle.clause.specs.Steps.{Started, begunAt, startAt, startUnder, startBy, startOf, readOn, settled, sequenceInto}
 
 -- a start behind trivia, under a valid book
 begun-started : (bk t : List ℕ) (left at : ℕ) (k : Skipped) → bookFault bk ≡ none → length t ≤ maxLength → at ≤ length t → skip (headerOf bk .«ignores_case») t at ≡ k
@@ -79,3 +79,13 @@ reads-of bk t left = go (ltb maxLength (length t)) refl
 pub call-is : (bk t : List ℕ) (size : ℕ) → settled size (readOn bk t (startOf bk t size)) ≡ sequenceCall bk t size
 unfolding sequenceCall
 call-is bk t size = ap (settled size) (reads-of bk t size)
+
+-- more slots than are used
+pub started-more : (bk t : List ℕ) (left size : ℕ) → left ≤ size → Started bk t size (startOf bk t left)
+started-more bk t left size h =
+    let s = started-of bk t left in
+    record { proper = s .proper; room = omega (arith, s .room); none-yet = s .none-yet }
+
+pub into-is : (bk t : List ℕ) (left size : ℕ) → settled size (readOn bk t (startOf bk t left)) ≡ sequenceInto bk t left size
+unfolding sequenceInto
+into-is bk t left size = ap (settled size) (reads-of bk t left)

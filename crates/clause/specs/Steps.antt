@@ -12,7 +12,7 @@ use Rattle.refusal.specs.declared.Refusal.{Refusal}
 use Rattle.refusal.specs.declared.Verdict.{Verdict}
 use Rattle.refusal.specs.declared.Verdict.the-variants.{Fine, Bad}
 use Rattle.refusal.specs.Table.{numberOf}
-use Rattle.refusal.specs.Answer.{Answer, given, refusedBy, andThen, slots, maxLength}
+use Rattle.refusal.specs.Answer.{Answer, given, refusedBy, andThen, unlessFault, admitted, slots, maxLength}
 use Rattle.refusal.specs.Verdict.{textVerdict}
 use Rattle.lexer.specs.declared.Skipped.{Skipped}
 use Rattle.lexer.specs.declared.Skipped.the-variants.{Past, OpenAt}
@@ -34,7 +34,7 @@ use Rattle.clause.specs.declared.Progress.{Progress}
 use Rattle.clause.specs.declared.Progress.the-variants.{Going, Ended, Refused}
 use Rattle.clause.specs.declared.SequenceState.{SequenceState}
 use Rattle.clause.specs.Clause.{Read, clause, failed, deep, clauseAt, zeroRecord}
-use Rattle.clause.specs.Sequence.{Sequence, Separated, then, openComment, separated, flagged, isUnsupported, sequenceFrom}
+use Rattle.clause.specs.Sequence.{Sequence, Separated, then, openComment, separated, flagged, isUnsupported, sequenceFrom, sequenceAt}
 use Rattle.clause.specs.Calls.{SequenceCall, counted}
 
 -- a book by its bit 0 alone: all that an argument and a separator ask of it
@@ -212,3 +212,8 @@ readOn book text s = readFrom book text s (s .progress)
 -- what a call gives for what was read: its answer, and every slot
 abbrev pub settled : ℕ → Answer Sequence → SequenceCall
 settled size a = record { answer = andThen a (λ s. given (counted s)); records = slots zeroRecord size (λ s. s .clauses) a }
+
+-- the sequence call with fewer slots in use than there are
+unfoldable pub sequenceInto : List ℕ → List ℕ → ℕ → ℕ → SequenceCall
+unfolding bookFault bookOf sequenceAt
+sequenceInto book text left size = settled size (admitted text (unlessFault 4 (bookFault book) (sequenceAt (bookOf book) text left 0)))

@@ -6,8 +6,10 @@ pub mod steps;
 use refusal::Refusal;
 use rulebook::Header;
 ghost use mathlib.Core.Path.{_≡_};
+ghost use Prim.Native.Nat.{min};
 ghost use lib.ListN.{length};
 ghost use Rattle.clause.specs.Calls.{SequenceCall, sequenceCall, sequenceGives};
+ghost use Rattle.clause.specs.Steps.{sequenceInto};
 
 // What is recorded of a clause: offsets of the joined text, its entry in the book, and its commas.
 // A zeroed record is bare with every number 0.
@@ -80,6 +82,12 @@ pub struct SequenceState {
     pub count: usize,
 }
 
+// The answer with its slots, by value.
+pub struct Sequence512 {
+    pub answer: SequenceAnswer,
+    pub records: [ClauseRecord; 512],
+}
+
 // The clauses of a text into the lent slots. Refusals 1, 2 and 4, then 8 and 10 to 14 in reading order.
 pub fn parse_sequence(book: &[u8], text: &[u8], records: &mut [ClauseRecord]) -> SequenceAnswer
     ensures { λ r. ⌜ record { answer = sequenceGives r; records = now (records .exit) }
@@ -87,4 +95,19 @@ pub fn parse_sequence(book: &[u8], text: &[u8], records: &mut [ClauseRecord]) ->
 {
     let start = steps::start(book, text, records.len());
     records::read_from(book, text, start, records)
+}
+
+// The same over an array by value, of which so many slots are used: for callers that hold their records in a local.
+pub fn parse_sequence_512(
+    book: &[u8],
+    text: &[u8],
+    slots: usize,
+    mut records: [ClauseRecord; 512],
+) -> Sequence512
+    ensures { λ r. ⌜ record { answer = sequenceGives (r .answer); records = r .records }
+        ≡ sequenceInto (now (book .entry)) (now (text .entry)) (min slots 512) 512 ⌝ }
+{
+    let start = steps::start_512(book, text, slots);
+    let answer = records::read_from(book, text, start, &mut records);
+    steps::paired(answer, records)
 }

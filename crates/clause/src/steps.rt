@@ -3,6 +3,7 @@ use crate::ClauseRead;
 use crate::ClauseRecord;
 use crate::Progress;
 use crate::Separation;
+use crate::Sequence512;
 use crate::SequenceAnswer;
 use crate::SequenceEnd;
 use crate::SequenceState;
@@ -19,7 +20,7 @@ use rulebook::Header;
 ghost use mathlib.Core.Path.{_≡_};
 ghost use mathlib.Core.Bool.{cond};
 ghost use mathlib.Core.Option.{none};
-ghost use Prim.Native.Nat.{_≤_, _<_};
+ghost use Prim.Native.Nat.{_≤_, _<_, min};
 ghost use lib.ListN.{length};
 ghost use lib.Dec.{eqb};
 ghost use Rattle.refusal.specs.Answer.{maxLength};
@@ -60,7 +61,8 @@ fn begun(header: Header, progress: Progress, at: usize, slots: usize) -> Sequenc
     }
 }
 
-fn refused_start(slots: usize, refusal: Refusal) -> SequenceState
+// A start that is refused before anything is read.
+pub fn refused_start(slots: usize, refusal: Refusal) -> SequenceState
     ensures { λ r. ⌜ r ≡ refusedStart slots refusal ⌝ }
 {
     begun(no_header(), Progress::Refused(refusal), 0, slots)
@@ -234,5 +236,25 @@ pub fn kept(answer: SequenceAnswer, size: usize) -> usize
     match answer {
         SequenceAnswer::Read(_) => size,
         SequenceAnswer::Refused(_) => 0,
+    }
+}
+
+// The start for an array of 512 slots, of which no more are used than it has.
+pub fn start_512(book: &[u8], text: &[u8], slots: usize) -> SequenceState
+    ensures { λ r. ⌜ r ≡ startOf (now (book .entry)) (now (text .entry)) (min slots 512) ⌝ }
+{
+    if slots < 512 {
+        return start(book, text, slots);
+    }
+    start(book, text, 512)
+}
+
+// An answer with its slots.
+pub fn paired(answer: SequenceAnswer, slots: [ClauseRecord; 512]) -> Sequence512
+    ensures { λ r. ⌜ r ≡ record { answer = answer; records = slots } ⌝ }
+{
+    Sequence512 {
+        answer,
+        records: slots,
     }
 }
