@@ -4,6 +4,7 @@ use crate::book;
 use crate::copy;
 use crate::join;
 use crate::print::Out;
+use crate::sequence;
 use crate::split;
 use crate::trim;
 use crate::words::part;
@@ -68,6 +69,7 @@ fn answer_call(
         Call::Join => join::answer(line, first, bytes, numbers, buffer, out),
         Call::Back => back::answer(line, numbers, buffer, out),
         Call::Copy => copy::answer(line, first, bytes, buffer, out),
+        Call::Sequence => sequence::answer(line, first, second, buffer, out),
         Call::Book => book::answer(line, first, buffer, out),
         Call::Unknown => out.bad_request(buffer),
         _ => out.not_yet(buffer),

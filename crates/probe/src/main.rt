@@ -8,6 +8,7 @@ mod join;
 mod lent;
 mod line;
 mod print;
+mod records;
 mod sequence;
 mod split;
 mod trim;
