@@ -1,0 +1,161 @@
+// The public calls for programs in C and Rust: numbers and slices only, and an answer that is one number (include/pelzurda.h).
+use delimiter::Separator;
+use delimiter::SplitAnswer;
+use lexer::Language;
+use lexer::Prefix;
+use refusal::Refusal;
+use rulebook::BookAnswer;
+use source::CopyAnswer;
+use source::JoinAnswer;
+use source::SpanAnswer;
+ghost use mathlib.Core.Path.{_≡_};
+ghost use Prim.Native.Nat.{_-_};
+ghost use lib.ListN.{length};
+ghost use Rattle.ascii.specs.Text.{trimmed};
+ghost use Rattle.refusal.specs.Table.{numberOf};
+ghost use Rattle.delimiter.specs.Split.{splitCall};
+ghost use Rattle.source.specs.Calls.{joinCall, spanAnswer, copyCall};
+ghost use Rattle.rulebook.specs.Check.{bookCall};
+ghost use Rattle.capi.specs.Coded.{coded, codedYes, codedRefusal, placeCode, spanEnds, rangeEnds, isSet, languageOf, prefixOf, separatorOf};
+
+fn place_code(place: usize) -> u64
+    ensures { λ r. ⌜ r ≡ placeCode place ⌝ }
+{
+    if place < 4294967296 {
+        place as u64
+    } else {
+        4294967295
+    }
+}
+
+fn code_of(refused: Refusal) -> u64
+    ensures { λ r. ⌜ r ≡ codedRefusal (numberOf (refused .reason)) (refused .place) ⌝ }
+{
+    let reason = refused.reason;
+    let number = refusal::number(reason) as u64;
+    9223372036854775808 + number * 4294967296 + place_code(refused.place)
+}
+
+fn language_of(language: u32) -> Language
+    ensures { λ r. ⌜ r ≡ languageOf language ⌝ }
+{
+    let free = language == 1;
+    if free {
+        return Language::FortranFree;
+    }
+    let fixed = language == 2;
+    if fixed {
+        Language::FortranFixed
+    } else {
+        Language::C
+    }
+}
+
+fn prefix_of(prefix: u32) -> Prefix
+    ensures { λ r. ⌜ r ≡ prefixOf prefix ⌝ }
+{
+    let acc = prefix == 1;
+    if acc { Prefix::Acc } else { Prefix::Omp }
+}
+
+fn separator_of(colon: u32) -> Separator
+    ensures { λ r. ⌜ r ≡ separatorOf colon ⌝ }
+{
+    let set = colon != 0;
+    if set {
+        Separator::Colon
+    } else {
+        Separator::Comma
+    }
+}
+
+// Trim: the length of what is left, and its start and end in the two lent numbers.
+#[no_mangle]
+pub extern "C" fn pelzurda_trim(text: &[u8], range: &mut [u64; 2]) -> u64
+    ensures { λ r. ⌜ r ≡ trimmed 0 (now (text .entry)) .end - trimmed 0 (now (text .entry)) .start ⌝ }
+    ensures { λ r. ⌜ now (range .exit) ≡ rangeEnds (trimmed 0 (now (text .entry))) ⌝ }
+{
+    let left = ascii::trim_range(text);
+    let start = left.start;
+    let end = left.end;
+    *range = [start as u64, end as u64];
+    (end - start) as u64
+}
+
+// Split: the number of items, with the start and end of each at the front of the slots.
+#[no_mangle]
+pub extern "C" fn pelzurda_split(text: &[u8], colon: u32, angles: u32, items: &mut [u16]) -> u64
+    ensures { λ r. ⌜ r ≡ coded (splitCall (now (text .entry)) (separatorOf colon) (isSet angles) (length (now (items .entry))) .answer) ⌝ }
+    ensures { λ r. ⌜ now (items .exit) ≡ splitCall (now (text .entry)) (separatorOf colon) (isSet angles) (length (now (items .entry))) .items ⌝ }
+{
+    match delimiter::split_top_level(text, separator_of(colon), angles != 0, items) {
+        SplitAnswer::Items(count) => count as u64,
+        SplitAnswer::Refused(refused) => code_of(refused),
+    }
+}
+
+// Join alone: the length of the text, which fills the front of its slots, as its map does.
+#[no_mangle]
+pub extern "C" fn pelzurda_join(
+    language: u32,
+    prefix: u32,
+    line: &[u8],
+    text: &mut [u8],
+    map: &mut [u16],
+) -> u64
+    ensures { λ r. ⌜ r ≡ coded (joinCall (languageOf language) (prefixOf prefix) (now (line .entry)) (length (now (text .entry))) (length (now (map .entry))) .answer) ⌝ }
+    ensures { λ r. ⌜ now (text .exit) ≡ joinCall (languageOf language) (prefixOf prefix) (now (line .entry)) (length (now (text .entry))) (length (now (map .entry))) .text ⌝ }
+    ensures { λ r. ⌜ now (map .exit) ≡ joinCall (languageOf language) (prefixOf prefix) (now (line .entry)) (length (now (text .entry))) (length (now (map .entry))) .map ⌝ }
+{
+    match source::join_line(language_of(language), prefix_of(prefix), line, text, map) {
+        JoinAnswer::Joined(length) => length as u64,
+        JoinAnswer::Refused(refused) => code_of(refused),
+    }
+}
+
+// Map-back: 0, and the physical range of a joined one in the two lent numbers.
+#[no_mangle]
+pub extern "C" fn pelzurda_map_back(
+    map: &[u16],
+    text_len: usize,
+    start: usize,
+    end: usize,
+    span: &mut [u64; 2],
+) -> u64
+    ensures { λ r. ⌜ r ≡ codedYes (spanAnswer (now (map .entry)) «text_len» start end) ⌝ }
+    ensures { λ r. ⌜ now (span .exit) ≡ spanEnds (spanAnswer (now (map .entry)) «text_len» start end) ⌝ }
+{
+    match source::map_back(map, text_len, start, end) {
+        SpanAnswer::Found(found) => {
+            *span = [found.start as u64, found.end as u64];
+            0
+        }
+        SpanAnswer::Refused(refused) => {
+            *span = [0, 0];
+            code_of(refused)
+        }
+    }
+}
+
+// Content copy: the length of the copy, which fills the front of its slots.
+#[no_mangle]
+pub extern "C" fn pelzurda_copy(content: &[u8], copy: &mut [u8]) -> u64
+    ensures { λ r. ⌜ r ≡ coded (copyCall (now (content .entry)) (length (now (copy .entry))) .answer) ⌝ }
+    ensures { λ r. ⌜ now (copy .exit) ≡ copyCall (now (content .entry)) (length (now (copy .entry))) .copy ⌝ }
+{
+    match source::copy_content(content, copy) {
+        CopyAnswer::Copied(length) => length as u64,
+        CopyAnswer::Refused(refused) => code_of(refused),
+    }
+}
+
+// Book check: 0 for a valid book.
+#[no_mangle]
+pub extern "C" fn pelzurda_check_book(book: &[u8]) -> u64
+    ensures { λ r. ⌜ r ≡ codedYes (bookCall (now (book .entry))) ⌝ }
+{
+    match rulebook::check_book(book) {
+        BookAnswer::Valid => 0,
+        BookAnswer::Refused(refused) => code_of(refused),
+    }
+}
