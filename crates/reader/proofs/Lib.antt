@@ -2,3 +2,4 @@ pub mod Breaks
 pub mod Appended
 pub mod AppendExample
 pub mod Rest
+pub mod OpeningWords

@@ -1,4 +1,6 @@
 // The whole line: from physical bytes to a directive's name and its clauses in order.
+pub mod opening;
+
 use refusal::Refusal;
 
 // The reading of a line: the directive's entry and where its name stands, the number of clause records, and the place of the unread rest.
