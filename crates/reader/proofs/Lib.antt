@@ -3,3 +3,4 @@ pub mod Appended
 pub mod AppendExample
 pub mod Rest
 pub mod OpeningWords
+pub mod Checking

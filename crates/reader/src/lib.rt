@@ -1,4 +1,5 @@
 // The whole line: from physical bytes to a directive's name and its clauses in order.
+pub mod checks;
 pub mod opening;
 
 use refusal::Refusal;
