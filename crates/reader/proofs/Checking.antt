@@ -3,9 +3,8 @@
 use Prim.Native.Nat.{ℕ, suc, _≤_, _<_}
 use mathlib.Core.Bool.{Bool, true, false, cond}
 use mathlib.Core.Option.{Option, some, none}
-use mathlib.Core.Path.{_≡_, refl, sym, _∙_}
+use mathlib.Core.Path.{_≡_, refl, _∙_}
 use mathlib.Core.List.{List}
-use native.Mathlib.Omega.{arith}
 use lib.ListN.{length}
 use lib.Dec.{ltb}
 use borrow.Author.Tests.{ltb-false}
@@ -13,7 +12,7 @@ use Rattle.ascii.specs.Text.{firstHigh}
 use Rattle.ascii.proofs.Flags.{or-none}
 use Rattle.refusal.specs.declared.Refusal.{Refusal}
 use Rattle.refusal.specs.declared.Verdict.the-variants.{Fine, Bad}
-use Rattle.refusal.specs.Answer.{Answer, given, refused, refusedBy, unlessFault, admitted, maxLength}
+use Rattle.refusal.specs.Answer.{Answer, given, refused, refusedBy, unlessFault, maxLength}
 use Rattle.refusal.specs.Verdict.{textVerdict}
 use Rattle.refusal.proofs.Admission.{admits-fine, admits-bad}
 use Rattle.refusal.proofs.Answers.{never}

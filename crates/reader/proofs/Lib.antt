@@ -4,3 +4,5 @@ pub mod AppendExample
 pub mod Rest
 pub mod OpeningWords
 pub mod Checking
+pub mod Headed
+pub mod Settled

@@ -66,7 +66,7 @@ openingF-end l p text =
     sure-past (Within text) (gone (skip false text 0)) _ (λ a.
     sure-cond (Within text) (eqb (sentinelOf l p (drop a text)) 0) (refused 7 0) _ tt (gone1-end true text (a + sentinelOf l p (drop a text))))
 
-opening-end : (l : Language) (p : Prefix) (text : List ℕ) → Sure (Within text) (opening l p text)
+pub opening-end : (l : Language) (p : Prefix) (text : List ℕ) → Sure (Within text) (opening l p text)
 opening-end C p text = openingC-end p text
 opening-end FortranFree p text = openingF-end FortranFree p text
 opening-end FortranFixed p text = openingF-end FortranFixed p text

@@ -1,5 +1,5 @@
 pub mod Line
-pub mod Steps
 pub mod Calls
+pub mod Steps
 pub mod Laws
 pub mod Examples

@@ -1,0 +1,34 @@
+-- `reader::heading::head_of` meets its contract: without a name nothing stands, behind one the clauses start.
+-- Assumes nothing.
+use mathlib.Core.Path.{ap, sym, _∙_}
+use borrow.Author.Needs.{needs}
+use Rattle.rulebook.specs.Book.{bookOf}
+use Rattle.rulebook.proofs.Forms.{valid-form}
+use Rattle.directive.specs.Name.{nameGives}
+use Rattle.reader.proofs.Headed.{name-ends, heads-refused, heads-found}
+use Rattle.reader.proofs.heading.head_of.Statement.{statement}
+use Rattle.reader.proofs.heading.head_of.Tie as tie
+
+returns : tie.Need-returns
+returns c =
+    let k : tie.After-known-told = c .before in
+    rw (c .refused-head .ensures) (heads-refused _ _ _ _ _ _ (sym (k .before .before .before .read-name .ensures) ∙ ap nameGives (k .before .why .given .1)))
+
+returns-2 : tie.Need-returns-2
+returns-2 c =
+    let k : tie.After-known-told2 = c .before in
+    rw (c .start-at .ensures) (heads-found _ _ _ _ _ _ (sym (k .before .before .before .read-name .ensures) ∙ ap nameGives (k .before .name .given .1)) (search needs) (search needs))
+
+pub head-of-spec : {M : Type 1} → statement M
+head-of-spec =
+    tie.close
+    (tie.spec
+    (λ c κs. (valid-form _ (search needs), search needs))
+    (λ c. search needs)
+    (λ c κs. search needs)
+    (λ c. search needs)
+    (λ c. search needs)
+    (λ c κs. let a = c .before .before .before .before .before .before .args in
+    (search needs, (search needs, name-ends (bookOf (a .book .now)) (a .language) (a .prefix) (a .slots) (a .text .now) _ (sym (c .before .before .before .read-name .ensures) ∙ ap nameGives (c .before .name .given .1)))))
+    returns
+    returns-2)
