@@ -6,3 +6,4 @@ pub mod OpeningWords
 pub mod Checking
 pub mod Headed
 pub mod Settled
+pub mod Sharing

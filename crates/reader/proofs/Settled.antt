@@ -3,6 +3,7 @@
 use Prim.Native.Nat.{ℕ, _-_, _≤_}
 use mathlib.Core.Path.{_≡_, refl, sym, ap, _∙_}
 use mathlib.Core.List.{List, _++_}
+use native.Mathlib.Omega.{arith}
 use lib.ListN.{length, take, replicate}
 use Rattle.ascii.proofs.Slots.{padded-take}
 use Rattle.refusal.specs.Answer.{Answer, given, refused, andThen, slots}
@@ -11,12 +12,13 @@ use Rattle.lexer.specs.declared.Language.{Language}
 use Rattle.lexer.specs.declared.Prefix.{Prefix}
 use Rattle.source.specs.Joining.{joinedText, joinedMap}
 use Rattle.clause.specs.declared.ClauseRecord.{ClauseRecord}
+use Rattle.clause.specs.declared.SequenceState.{SequenceState}
 use Rattle.clause.specs.declared.SequenceAnswer.{SequenceAnswer}
 use Rattle.clause.specs.declared.SequenceAnswer.the-variants as SequenceAnswer
 use Rattle.clause.specs.Clause.{zeroRecord}
 use Rattle.clause.specs.Sequence.{Sequence}
 use Rattle.clause.specs.Calls.{SequenceCall, counted, sequenceGives}
-use Rattle.clause.specs.Steps.{keptOf, readOn, settled}
+use Rattle.clause.specs.Steps.{Started, keptOf, readOn, settled}
 use Rattle.directive.specs.declared.DirectiveName.{DirectiveName}
 use Rattle.reader.specs.declared.Head.{Head}
 use Rattle.reader.specs.declared.LineAnswer.{LineAnswer}
@@ -48,6 +50,10 @@ record-slots : (size : ℕ) (name : DirectiveName) (x : Answer Sequence)
     → slots zeroRecord size (λ s. s .clauses) x ≡ slots zeroRecord size (λ (p : Parsed). p .sequence .clauses) (behind name x)
 record-slots size name (given s) = refl
 record-slots size name (refused n p) = refl
+
+-- the start for more slots, at what stands of the text
+pub started-for : (bk t u : List ℕ) (room size : ℕ) (s z : SequenceState) → t ≡ u → s ≡ z → room ≤ size → Started bk u room z → Started bk t size s
+started-for bk t u room size s z e d h k = rw (e, d) (record { proper = k .proper; room = omega (arith, k .room); none-yet = k .none-yet })
 
 pub line-settles : (l : Language) (p : Prefix) (bk line : List ℕ) (room size : ℕ) (text map text₂ map₂ : List ℕ) (rs : List ClauseRecord) (h : Head) (a : SequenceAnswer) (r : LineAnswer)
     → HeadGives l p bk line room text map h

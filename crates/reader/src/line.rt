@@ -1,0 +1,34 @@
+// The thin writer of a line: all that decides is in `heading` and in the clauses.
+use crate::LineAnswer;
+use crate::heading;
+use clause::ClauseRecord;
+use clause::records;
+use lexer::Language;
+use lexer::Prefix;
+ghost use mathlib.Core.Path.{_≡_};
+ghost use Prim.Native.Nat.{_≤_};
+ghost use lib.ListN.{length};
+ghost use Rattle.reader.specs.Calls.{LineCall, lineGives};
+ghost use Rattle.reader.specs.Steps.{lineWithin};
+
+// The whole line into so many of the record slots; every other slot is zeroed.
+pub fn read_into(
+    language: Language,
+    prefix: Prefix,
+    book: &[u8],
+    line: &[u8],
+    text: &mut [u8],
+    map: &mut [u16],
+    slots: usize,
+    records: &mut [ClauseRecord],
+) -> LineAnswer
+    requires { ⌜ slots ≤ length (now records) ⌝ }
+    ensures { λ r. ⌜ record { answer = lineGives r; text = now (text .exit); map = now (map .exit); records = now (records .exit) }
+        ≡ lineWithin language prefix (now (book .entry)) (now (line .entry)) (length (now (text .entry))) (length (now (map .entry))) slots (length (now (records .entry))) ⌝ }
+{
+    let head = heading::read_head(language, prefix, book, line, text, map, slots);
+    let joined = heading::joined(text, head);
+    let start = heading::start_of(head);
+    let clauses = records::read_from(book, joined, start, records);
+    heading::settle(head, clauses, text, map)
+}
