@@ -1,56 +1,63 @@
-//! Times Pelzurda's calls beside the published Rust's on the same inputs. Every input is first answered by both, and the answers must agree.
+//! Times Pelzurda's calls beside the published Rust's on the same inputs. Both answer every input first, and must agree on it.
 #![allow(dead_code)]
 
-#[path = "delimiter.rs"]
 mod delimiter;
-#[path = "lexer.rs"]
 mod lexer;
-#[path = "parser.rs"]
 mod parser;
-#[path = "source.rs"]
 mod source;
 
+mod books;
+mod joins;
 mod ours;
 mod splits;
+mod timing;
 
-use std::time::Instant;
+use timing::{Time, measure};
 
-/// One row of the report: its name, the bytes of an input, and the two medians in nanoseconds.
-pub struct Row {
-    pub name: String,
-    pub bytes: usize,
-    pub ours: f64,
-    pub theirs: f64,
+/// The rows whose names start with a wanted word, measured and printed one by one.
+pub struct Report {
+    wanted: Vec<String>,
 }
 
-/// The median time of one call, over several rounds of as many calls as take about 20 ms.
-pub fn median(mut call: impl FnMut() -> usize) -> f64 {
-    let start = Instant::now();
-    let mut sum = call();
-    let once = start.elapsed().as_nanos().max(1) as f64;
-    let calls = ((20_000_000.0 / once) as usize).clamp(1, 200_000);
-    let mut rounds: Vec<f64> = (0..7)
-        .map(|_| {
-            let start = Instant::now();
-            for _ in 0..calls {
-                sum = sum.wrapping_add(std::hint::black_box(call()));
-            }
-            start.elapsed().as_nanos() as f64 / calls as f64
-        })
-        .collect();
-    std::hint::black_box(sum);
-    rounds.sort_by(f64::total_cmp);
-    rounds[rounds.len() / 2]
+impl Report {
+    pub fn wants(&self, name: &str) -> bool {
+        self.wanted.is_empty() || self.wanted.iter().any(|word| name.starts_with(word.as_str()))
+    }
+
+    pub fn heading(&self, title: &str, other: &str) {
+        println!("\n{title}\n{:<44} {:>7} {:>10} {:>10} {:>7} {:>7} {:>8}", "", "bytes", "ours ns", other, "ratio", "least", "ns/byte");
+    }
+
+    /// The ratio of the medians, the ratio of the least times, and ours by the byte.
+    pub fn row(&self, name: &str, bytes: usize, ours: impl FnMut() -> usize, theirs: impl FnMut() -> usize) {
+        let (ours, theirs): (Time, Time) = measure(ours, theirs);
+        println!(
+            "{name:<44} {bytes:>7} {:>10.0} {:>10.0} {:>7.2} {:>7.2} {:>8.2}",
+            ours.median,
+            theirs.median,
+            ours.median / theirs.median,
+            ours.least / theirs.least,
+            ours.median / bytes as f64
+        );
+    }
+}
+
+/// A pattern over and over, so many bytes of it.
+pub fn repeated(pattern: &str, bytes: usize) -> String {
+    pattern.chars().cycle().take(bytes).collect()
+}
+
+fn load() -> String {
+    std::fs::read_to_string("/proc/loadavg").map_or("unknown".into(), |line| line.split(' ').take(3).collect::<Vec<_>>().join(" "))
 }
 
 fn main() {
-    let wanted: Vec<String> = std::env::args().skip(1).collect();
-    let mut rows = Vec::new();
-    splits::rows(&mut rows);
-    println!("{:<40} {:>8} {:>12} {:>12} {:>8}", "row", "bytes", "ours ns", "Rust ns", "ratio");
-    for row in rows {
-        if wanted.is_empty() || wanted.iter().any(|word| row.name.starts_with(word.as_str())) {
-            println!("{:<40} {:>8} {:>12.0} {:>12.0} {:>8.2}", row.name, row.bytes, row.ours, row.theirs, row.ours / row.theirs);
-        }
-    }
+    let mut arguments = std::env::args().skip(1);
+    let books_folder = arguments.next().expect("bench BOOKS [ROW..]");
+    let report = Report { wanted: arguments.collect() };
+    println!("load before: {}", load());
+    joins::rows(&report);
+    splits::rows(&report);
+    books::rows(&report, &books_folder);
+    println!("\nload after: {}", load());
 }

@@ -1,12 +1,54 @@
-//! Pelzurda's calls, as the static library exports them. A slice passes as a pointer and a length.
+//! Pelzurda's calls, as the archive exports them (include/pelzurda.h). A slice passes as a pointer and a length.
 
 unsafe extern "C" {
-    fn pelzurda_split(text: *const u8, text_len: usize, colon: u8, angles: u8, items: *mut u16, items_len: usize) -> u64;
+    fn pelzurda_trim(text: *const u8, text_len: usize, range: *mut [u64; 2]) -> u64;
+    fn pelzurda_split(text: *const u8, text_len: usize, colon: u32, angles: u32, items: *mut u16, items_len: usize) -> u64;
+    fn pelzurda_join(
+        language: u32,
+        prefix: u32,
+        line: *const u8,
+        line_len: usize,
+        text: *mut u8,
+        text_len: usize,
+        map: *mut u16,
+        map_len: usize,
+    ) -> u64;
+    fn pelzurda_map_back(map: *const u16, map_len: usize, text_len: usize, start: usize, end: usize, span: *mut [u64; 2]) -> u64;
+    fn pelzurda_copy(content: *const u8, content_len: usize, copy: *mut u8, copy_len: usize) -> u64;
+    fn pelzurda_check_book(book: *const u8, book_len: usize) -> u64;
 }
 
-/// The number of items, or none for a refusal.
-pub fn split(text: &[u8], colon: bool, angles: bool, items: &mut [u16]) -> Option<usize> {
-    // The library reads `text` and writes `items`, each within its length.
-    let answer = unsafe { pelzurda_split(text.as_ptr(), text.len(), colon.into(), angles.into(), items.as_mut_ptr(), items.len()) };
-    (answer >> 63 == 0).then_some(answer as usize)
+pub const C: u32 = 0;
+pub const FORTRAN_FREE: u32 = 1;
+
+/// A refusal's number, for an answer that is one.
+pub fn refusal(answer: u64) -> Option<u32> {
+    (answer >> 63 == 1).then_some((answer >> 32) as u32 & 0x7fff_ffff)
+}
+
+// In each call the archive reads and writes within the lengths that it is given, and the borrows keep what it writes apart from the rest.
+
+pub fn trim(text: &[u8], range: &mut [u64; 2]) -> u64 {
+    unsafe { pelzurda_trim(text.as_ptr(), text.len(), range) }
+}
+
+pub fn split(text: &[u8], colon: bool, angles: bool, items: &mut [u16]) -> u64 {
+    unsafe { pelzurda_split(text.as_ptr(), text.len(), colon.into(), angles.into(), items.as_mut_ptr(), items.len()) }
+}
+
+/// With the prefix omp.
+pub fn join(language: u32, line: &[u8], text: &mut [u8], map: &mut [u16]) -> u64 {
+    unsafe { pelzurda_join(language, 0, line.as_ptr(), line.len(), text.as_mut_ptr(), text.len(), map.as_mut_ptr(), map.len()) }
+}
+
+pub fn map_back(map: &[u16], text_len: usize, start: usize, end: usize, span: &mut [u64; 2]) -> u64 {
+    unsafe { pelzurda_map_back(map.as_ptr(), map.len(), text_len, start, end, span) }
+}
+
+pub fn copy(content: &[u8], copy: &mut [u8]) -> u64 {
+    unsafe { pelzurda_copy(content.as_ptr(), content.len(), copy.as_mut_ptr(), copy.len()) }
+}
+
+pub fn check_book(book: &[u8]) -> u64 {
+    unsafe { pelzurda_check_book(book.as_ptr(), book.len()) }
 }

@@ -1,49 +1,78 @@
-//! Splits: short, typical and full texts, many items, deep nesting.
+//! The split against `split_top_level`, trim against `str::trim`.
 
 use crate::delimiter::{CommentStyle, split_top_level};
-use crate::{Row, median, ours};
+use crate::{Report, ours, repeated};
+use std::hint::black_box;
 
 const PLAIN: [(char, char); 3] = [('(', ')'), ('[', ']'), ('{', '}')];
 const ANGLES: [(char, char); 4] = [('(', ')'), ('[', ']'), ('{', '}'), ('<', '>')];
+const LIST: &str = "count, data[0:n], f(x, y), \"a,b\", ";
 
-pub fn rows(rows: &mut Vec<Row>) {
-    let list = |bytes: usize| grown("count, data[0:n], f(x, y), \"a,b\", ", bytes);
+pub fn rows(report: &Report) {
+    report.heading("split against split_top_level", "Rust ns");
     for (name, bytes) in [("short", 60), ("typical", 400), ("half", 8_192), ("full", 16_384)] {
-        rows.push(row(&format!("split {name}"), &list(bytes), false, false));
+        row(report, &format!("split {name}"), &ended(LIST, bytes), ',', false);
     }
-    rows.push(row("split many items", &grown("a,", 16_384), false, false));
-    rows.push(row("split deep nesting", &nested(256), false, false));
-    rows.push(row("split blanks", &grown("a                              ,", 16_384), false, false));
-    rows.push(row("split colons", &grown("a : b ? c : d : e::f : ", 16_384), true, false));
-    rows.push(row("split angles", &grown("v<int, 3>, w < x, ", 400), false, true));
+    row(report, "split many items", &ended("a,", 16_384), ',', false);
+    row(report, "split one long item", &ended("abcdefgh", 16_384), ',', false);
+    row(report, "split deep nesting, 256", &nested(256, 1), ',', false);
+    row(report, "split deep nesting, full", &nested(256, 31), ',', false);
+    row(report, "split blanks", &ended("a                              ,", 16_384), ',', false);
+    row(report, "split colons, typical", &ended("a : b ? c : d : e::f : ", 400), ':', false);
+    row(report, "split colons, full", &ended("a : b ? c : d : e::f : ", 16_384), ':', false);
+    row(report, "split angles, typical", &ended("v<int, 3>, w<x, y<1, 2>>, ", 400), ',', true);
+    row(report, "split angles, full", &ended("v<int, 3>, w<x, y<1, 2>>, ", 16_384), ',', true);
+    row(report, "split literals and comments", &ended("\"a, b\" /* c, d */ 'e', ", 16_384), ',', false);
+    report.heading("trim against str::trim", "Rust ns");
+    trim_row(report, "trim", &format!("  \t{}\n   ", repeated(LIST, 400)));
 }
 
-/// The pattern over and over, cut to size, with an item at the end.
-fn grown(pattern: &str, bytes: usize) -> String {
-    let mut text: String = pattern.chars().cycle().take(bytes.saturating_sub(pattern.len() + 1) / pattern.len() * pattern.len()).collect();
-    while text.len() < bytes {
-        text.push('z');
+/// The pattern as often as it fits, with an item behind it.
+fn ended(pattern: &str, bytes: usize) -> String {
+    let whole = (bytes - 1) / pattern.len() * pattern.len();
+    repeated(pattern, whole) + &"z".repeat(bytes - whole)
+}
+
+/// So many items, each inside so many brackets.
+fn nested(depth: usize, items: usize) -> String {
+    vec!["(".repeat(depth) + "x, y" + &")".repeat(depth); items].join(", ")
+}
+
+fn row(report: &Report, name: &str, text: &str, separator: char, angles: bool) {
+    if !report.wants(name) {
+        return;
     }
-    text
-}
-
-fn nested(depth: usize) -> String {
-    "(".repeat(depth) + "x, y" + &")".repeat(depth)
-}
-
-fn row(name: &str, text: &str, colon: bool, angles: bool) -> Row {
-    let separator = if colon { ':' } else { ',' };
     let pairs: &[(char, char)] = if angles { &ANGLES } else { &PLAIN };
-    let theirs = || split_top_level(text, separator, pairs, CommentStyle::Block).map(|items| items.len()).ok();
-    let mut items = vec![0u16; 20_000];
-    let expected = theirs();
-    assert_eq!(ours::split(text.as_bytes(), colon, angles, &mut items), expected, "{name}");
-    // As many slots as the items need: zeroing slots that nobody asked for would be measured otherwise.
-    let slots = 2 * expected.unwrap_or(1);
-    Row {
-        name: name.to_string(),
-        bytes: text.len(),
-        ours: median(|| ours::split(text.as_bytes(), colon, angles, &mut items[..slots]).unwrap_or(0)),
-        theirs: median(|| theirs().unwrap_or(0)),
+    let theirs = || split_top_level(black_box(text), separator, pairs, CommentStyle::Block);
+    let expected: Vec<u16> = theirs().unwrap_or_else(|error| panic!("{name}: {error:?}")).iter().flat_map(|part| ends(text, part)).collect();
+    // As many slots as the items take: clearing slots that nobody asked for would be measured otherwise.
+    let mut items = vec![43_690u16; expected.len()];
+    let count = ours::split(text.as_bytes(), separator == ':', angles, &mut items);
+    assert_eq!((2 * count as usize, &items), (expected.len(), &expected), "{name}");
+    report.row(
+        name,
+        text.len(),
+        || ours::split(black_box(text.as_bytes()), separator == ':', angles, &mut items) as usize,
+        || theirs().map_or(0, |parts| black_box(parts).len()),
+    );
+}
+
+/// Where a part of a text starts and ends.
+fn ends(text: &str, part: &str) -> [u16; 2] {
+    let start = part.as_ptr() as usize - text.as_ptr() as usize;
+    [start as u16, (start + part.len()) as u16]
+}
+
+fn trim_row(report: &Report, name: &str, text: &str) {
+    if !report.wants(name) {
+        return;
     }
+    let mut range = [0u64; 2];
+    assert_eq!(ours::trim(text.as_bytes(), &mut range) as usize, text.trim().len(), "{name}");
+    report.row(
+        name,
+        text.len(),
+        || ours::trim(black_box(text.as_bytes()), &mut range) as usize,
+        || black_box(text).trim().len(),
+    );
 }

@@ -1,0 +1,56 @@
+//! The book check, which the Rust has not: beside it stands one pass over the same bytes that sums them.
+
+use crate::{Report, ours};
+use std::hint::black_box;
+
+pub fn rows(report: &Report, folder: &str) {
+    report.heading("book check beside a sum of the same bytes", "sum ns");
+    row(report, "book typical, 40 and 60 names", &book(40, 60, typical_name));
+    row(report, "book full, 255 and 255 names", &book(255, 255, typical_name));
+    row(report, "book full, names of one length", &book(255, 255, |i| format!("directive_name_{i:03}")));
+    row(report, "book full, names of 64 differ first", &book(255, 255, |i| format!("{i:03}{}", "x".repeat(61))));
+    row(report, "book full, names of 64 differ in the middle", &book(255, 255, |i| format!("{}{i:03}{}", "x".repeat(30), "x".repeat(31))));
+    let openmp = std::fs::read(format!("{folder}/openmp.drb")).expect("books/openmp.drb");
+    row(report, "book openmp.drb", &openmp);
+}
+
+/// Names of 4 to 19 letters, no two alike.
+fn typical_name(i: usize) -> String {
+    let mut state = i as u64 * 0x9e37_79b9_7f4a_7c15 + 1;
+    let mut letter = || {
+        state = state.wrapping_mul(6_364_136_223_846_793_005).wrapping_add(1_442_695_040_888_963_407);
+        (b'a' + (state >> 33) as u8 % 26) as char
+    };
+    let stem: String = (0..2 + i % 16).map(|_| letter()).collect();
+    format!("{stem}{}{}", (b'a' + (i / 26) as u8) as char, (b'a' + (i % 26) as u8) as char)
+}
+
+/// A book with the same names for directives and for clauses, as far as each kind goes.
+fn book(directives: u8, clauses: u8, name: impl Fn(usize) -> String) -> Vec<u8> {
+    let mut book = vec![b'D', b'R', b'B', 0, 1, 0, 2, directives, clauses];
+    for i in 0..usize::from(directives) {
+        entry(&mut book, &[], &name(i));
+    }
+    for i in 0..usize::from(clauses) {
+        entry(&mut book, &[2], &name(i));
+    }
+    book
+}
+
+fn entry(book: &mut Vec<u8>, lead: &[u8], name: &str) {
+    book.extend_from_slice(lead);
+    book.push(name.len() as u8);
+    book.extend_from_slice(name.as_bytes());
+}
+
+fn sum(book: &[u8]) -> usize {
+    book.iter().fold(0usize, |sum, &byte| sum.wrapping_add(usize::from(byte)))
+}
+
+fn row(report: &Report, name: &str, book: &[u8]) {
+    if !report.wants(name) {
+        return;
+    }
+    assert_eq!(ours::check_book(book), 0, "{name}");
+    report.row(name, book.len(), || ours::check_book(black_box(book)) as usize, || sum(black_box(book)));
+}
