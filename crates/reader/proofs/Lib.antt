@@ -7,3 +7,4 @@ pub mod Checking
 pub mod Headed
 pub mod Settled
 pub mod Sharing
+pub mod Arrays

@@ -1,4 +1,5 @@
 // The thin writer of a line: all that decides is in `heading` and in the clauses.
+use crate::Line512;
 use crate::LineAnswer;
 use crate::heading;
 use clause::ClauseRecord;
@@ -6,7 +7,7 @@ use clause::records;
 use lexer::Language;
 use lexer::Prefix;
 ghost use mathlib.Core.Path.{_≡_};
-ghost use Prim.Native.Nat.{_≤_};
+ghost use Prim.Native.Nat.{_≤_, min};
 ghost use lib.ListN.{length};
 ghost use Rattle.reader.specs.Calls.{LineCall, lineGives};
 ghost use Rattle.reader.specs.Steps.{lineWithin};
@@ -31,4 +32,21 @@ pub fn read_into(
     let start = heading::start_of(head);
     let clauses = records::read_from(book, joined, start, records);
     heading::settle(head, clauses, text, map)
+}
+
+// No more slots than an array of 512 has.
+pub fn at_most_512(slots: usize) -> usize
+    ensures { λ r. ⌜ r ≡ min slots 512 ⌝ }
+{
+    if slots < 512 { slots } else { 512 }
+}
+
+// An answer with its record slots.
+pub fn paired(answer: LineAnswer, slots: [ClauseRecord; 512]) -> Line512
+    ensures { λ r. ⌜ r ≡ record { answer = answer; records = slots } ⌝ }
+{
+    Line512 {
+        answer,
+        records: slots,
+    }
 }
