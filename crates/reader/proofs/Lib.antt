@@ -8,3 +8,4 @@ pub mod Headed
 pub mod Settled
 pub mod Sharing
 pub mod Arrays
+pub mod Alike
