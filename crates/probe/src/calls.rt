@@ -3,6 +3,7 @@ use crate::back;
 use crate::book;
 use crate::copy;
 use crate::join;
+use crate::line;
 use crate::print::Out;
 use crate::sequence;
 use crate::split;
@@ -71,8 +72,8 @@ fn answer_call(
         Call::Copy => copy::answer(line, first, bytes, buffer, out),
         Call::Sequence => sequence::answer(line, first, second, buffer, out),
         Call::Book => book::answer(line, first, buffer, out),
+        Call::Line => line::answer(line, first, second, bytes, numbers, buffer, out),
         Call::Unknown => out.bad_request(buffer),
-        _ => out.not_yet(buffer),
     }
 }
 

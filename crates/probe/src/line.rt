@@ -4,10 +4,15 @@ use crate::form::form_of;
 use crate::lent::fill_bytes;
 use crate::lent::fill_numbers;
 use crate::print::Out;
+use crate::records::and_records;
+use crate::records::lent_records;
 use crate::words::ends;
 use crate::words::nth;
 use crate::words::slots_at;
 use crate::words::two_at;
+use reader::Line512;
+use reader::LineAnswer;
+use reader::Reading;
 ghost use Prim.Native.Nat.{_≤_};
 
 pub fn answer(
@@ -84,7 +89,48 @@ fn answer_line(
 {
     fill_bytes(text);
     fill_numbers(map);
-    out.not_yet(buffer)
+    let done = reader::read_line_512(
+        form.language(),
+        form.prefix(),
+        book,
+        source,
+        text,
+        map,
+        records,
+        lent_records(),
+    );
+    print_whole(done, text, map, records, buffer, out)
+}
+
+fn print_whole(
+    done: Line512,
+    text: &[u8],
+    map: &[u16],
+    records: usize,
+    buffer: &mut [u8],
+    out: Out,
+) -> Out
+    requires { ⌜ records ≤ 512 ⌝ }
+{
+    let answer = done.answer;
+    let slots = done.records;
+    let listed = print_line(answer, buffer, out)
         .and_bytes(buffer, text)
-        .and_numbers(buffer, map)
+        .and_numbers(buffer, map);
+    and_records(listed, buffer, slots, records)
+}
+
+fn print_line(answer: LineAnswer, buffer: &mut [u8], out: Out) -> Out {
+    match answer {
+        LineAnswer::Read(reading) => print_reading(reading, out.ok(buffer), buffer),
+        LineAnswer::Refused(refused) => out.refused(buffer, refused),
+    }
+}
+
+fn print_reading(reading: Reading, out: Out, buffer: &mut [u8]) -> Out {
+    out.and_number(buffer, reading.entry)
+        .and_number(buffer, reading.name_start)
+        .and_number(buffer, reading.name_end)
+        .and_number(buffer, reading.count)
+        .and_number(buffer, reading.rest)
 }

@@ -49,10 +49,6 @@ impl Out {
         self.bytes(buffer, b"bad request")
     }
 
-    pub fn not_yet(self, buffer: &mut [u8]) -> Out {
-        self.bytes(buffer, b"not yet")
-    }
-
     // A blank and a number.
     pub fn and_number(self, buffer: &mut [u8], n: usize) -> Out {
         self.byte(buffer, b' ').number(buffer, n)
