@@ -25,14 +25,14 @@ impl Report {
     }
 
     pub fn heading(&self, title: &str, other: &str) {
-        println!("\n{title}\n{:<44} {:>7} {:>10} {:>10} {:>7} {:>7} {:>8}", "", "bytes", "ours ns", other, "ratio", "least", "ns/byte");
+        println!("\n{title}\n{:<44} {:>7} {:>10} {:>10} {:>7} {:>7} {:>10}", "", "bytes", "ours ns", other, "ratio", "least", "ns a byte");
     }
 
     /// The ratio of the medians, the ratio of the least times, and ours by the byte.
     pub fn row(&self, name: &str, bytes: usize, ours: impl FnMut() -> usize, theirs: impl FnMut() -> usize) {
         let (ours, theirs): (Time, Time) = measure(ours, theirs);
         println!(
-            "{name:<44} {bytes:>7} {:>10.0} {:>10.0} {:>7.2} {:>7.2} {:>8.2}",
+            "{name:<44} {bytes:>7} {:>10.0} {:>10.0} {:>7.2} {:>7.2} {:>10.2}",
             ours.median,
             theirs.median,
             ours.median / theirs.median,
