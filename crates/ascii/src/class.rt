@@ -268,10 +268,18 @@ pub fn class_of(b: u8) -> u8
     CLASSES[b as usize]
 }
 
+// A constant array stands on the stack anew at each look-up, so the common bytes, which need no class, are answered before it.
+
 // What trimming takes: 9 to 13 and 32.
 pub fn is_trimmed(b: u8) -> bool
     ensures { λ r. ⌜ r ≡ isTrimmed b ⌝ }
 {
+    if 32 < b {
+        return false;
+    }
+    if b == 32 {
+        return true;
+    }
     let k = class_of(b);
     (1 <= k) & (k <= 4)
 }
@@ -280,6 +288,12 @@ pub fn is_trimmed(b: u8) -> bool
 pub fn is_space(b: u8) -> bool
     ensures { λ r. ⌜ r ≡ isSpace b ⌝ }
 {
+    if 32 < b {
+        return false;
+    }
+    if b == 32 {
+        return true;
+    }
     let k = class_of(b);
     (1 <= k) & (k <= 3)
 }
@@ -288,6 +302,12 @@ pub fn is_space(b: u8) -> bool
 pub fn is_blank(b: u8) -> bool
     ensures { λ r. ⌜ r ≡ isBlank b ⌝ }
 {
+    if 32 < b {
+        return false;
+    }
+    if b == 32 {
+        return true;
+    }
     class_of(b) == 1
 }
 
@@ -295,6 +315,9 @@ pub fn is_blank(b: u8) -> bool
 pub fn is_eol(b: u8) -> bool
     ensures { λ r. ⌜ r ≡ isEol b ⌝ }
 {
+    if 13 < b {
+        return false;
+    }
     class_of(b) == 2
 }
 
@@ -307,12 +330,20 @@ pub fn is_digit(b: u8) -> bool
 pub fn is_upper(b: u8) -> bool
     ensures { λ r. ⌜ r ≡ isUpper b ⌝ }
 {
+    let other = (b < 65) | (90 < b);
+    if other {
+        return false;
+    }
     class_of(b) == 6
 }
 
 pub fn is_letter(b: u8) -> bool
     ensures { λ r. ⌜ r ≡ isLetter b ⌝ }
 {
+    let lower = (97 <= b) & (b <= 122);
+    if lower {
+        return true;
+    }
     let k = class_of(b);
     (6 <= k) & (k <= 7)
 }
@@ -321,6 +352,10 @@ pub fn is_letter(b: u8) -> bool
 pub fn is_word(b: u8) -> bool
     ensures { λ r. ⌜ r ≡ isWord b ⌝ }
 {
+    let lower = (97 <= b) & (b <= 122);
+    if lower {
+        return true;
+    }
     5 <= class_of(b)
 }
 

@@ -1,9 +1,19 @@
--- `ascii::class::is_word` meets its contract: question 7 of a byte is answered by its class.
+-- `ascii::class::is_word` meets its contract: question 7 of a byte is answered by its class, and that of a common byte without it.
 -- Assumes nothing.
+use mathlib.Core.Path.{refl, sym}
+use mathlib.Core.Bool.{true}
 use borrow.Author.Needs.{needs}
+use Rattle.ascii.specs.Ascii.{isWord, within}
+use Rattle.ascii.proofs.Table.{agree-where}
 use Rattle.ascii.proofs.Classes.{told}
 use Rattle.ascii.proofs.class.is_word.Statement.{statement}
 use Rattle.ascii.proofs.class.is_word.Tie as tie
 
+small : tie.Need-returns
+small c = sym (agree-where (within 97 122) isWord (λ _. true) 256 refl (c .before .args .b) (search needs) (c .if1 .taken))
+
+other : tie.Need-returns-2
+other c = rw (c .class-of .ensures) (told 7 (c .before .before .args .b) (search needs))
+
 pub is-word-spec : {M : Type 1} → statement M
-is-word-spec = tie.close (tie.spec (λ c κs. search needs) (λ c. rw (c .class-of .ensures) (told 7 (c .before .args .b) (search needs))))
+is-word-spec = tie.close (tie.spec small (λ c κs. search needs) other)
