@@ -16,8 +16,9 @@ use Rattle.lexer.specs.declared.Language.the-variants.{C, FortranFree, FortranF
 use Rattle.lexer.specs.declared.Prefix.{Prefix}
 use Rattle.lexer.specs.declared.Skipped.{Skipped}
 use Rattle.lexer.specs.declared.Skipped.the-variants.{Past, OpenAt}
-use Rattle.lexer.specs.Continuation.{prefixBytes}
+use Rattle.lexer.specs.Continuation.{prefixBytes, openingSentinel}
 use Rattle.lexer.specs.Trivia.{skip}
+use Rattle.lexer.specs.Steps.{triviaStep, passedSome, someTriviaStep, wordStep}
 use Rattle.lexer.proofs.Bounds.{skip-bounds}
 use Rattle.source.specs.Validation.{fault}
 use Rattle.source.specs.Joining.{joinedText}
@@ -32,7 +33,7 @@ use Rattle.clause.proofs.Rest.{IsWhole, whole-slots, sequenceAt-whole}
 use Rattle.directive.specs.Name.{nameAt}
 use Rattle.directive.proofs.Ends.{nameAt-end}
 use Rattle.reader.specs.declared.Reading.{Reading}
-use Rattle.reader.specs.Line.{gone, gone1, word, sentinelOf, openingC, openingF, opening, Parsed, parsed, suits, lineAnswer}
+use Rattle.reader.specs.Line.{openingC, openingF, opening, Parsed, parsed, suits, lineAnswer}
 use Rattle.reader.specs.Calls.{readingOf, lineCall}
 use Rattle.reader.specs.Laws.{StrictReadingsAreWhole}
 
@@ -40,10 +41,10 @@ use Rattle.reader.specs.Laws.{StrictReadingsAreWhole}
 abbrev Within : List ℕ → ℕ → Type 0
 Within text at = at ≤ length text
 
-gone1-end : (f : Bool) (text : List ℕ) (at : ℕ) → Sure (Within text) (gone1 at (skip f text at))
-gone1-end f text at = go (skip f text at) refl
+some-end : (f : Bool) (text : List ℕ) (at : ℕ) → Sure (Within text) (someTriviaStep f text at)
+some-end f text at = go (skip f text at) refl
   where
-    go : (s : Skipped) → skip f text at ≡ s → Sure (Within text) (gone1 at s)
+    go : (s : Skipped) → skip f text at ≡ s → Sure (Within text) (passedSome at s)
     go (OpenAt p) e = tt
     go (Past p) e = more (eqb p at) refl
       where
@@ -54,17 +55,17 @@ gone1-end f text at = go (skip f text at) refl
 openingC-end : (p : Prefix) (text : List ℕ) → Sure (Within text) (openingC p text)
 unfolding openingC
 openingC-end p text =
-    sure-past (Within text) (gone (skip false text 0)) _ (λ a.
-    sure-past (Within text) (word (bytes "#pragma") text a) _ (λ b.
-    sure-past (Within text) (gone1 b (skip false text b)) _ (λ d.
-    sure-past (Within text) (word (prefixBytes p) text d) _ (λ e.
-    gone1-end false text e))))
+    sure-past (Within text) (triviaStep false text 0) _ (λ a.
+    sure-past (Within text) (wordStep (bytes "#pragma") text a) _ (λ b.
+    sure-past (Within text) (someTriviaStep false text b) _ (λ d.
+    sure-past (Within text) (wordStep (prefixBytes p) text d) _ (λ e.
+    some-end false text e))))
 
 openingF-end : (l : Language) (p : Prefix) (text : List ℕ) → Sure (Within text) (openingF l p text)
 unfolding openingF
 openingF-end l p text =
-    sure-past (Within text) (gone (skip false text 0)) _ (λ a.
-    sure-cond (Within text) (eqb (sentinelOf l p (drop a text)) 0) (refused 7 0) _ tt (gone1-end true text (a + sentinelOf l p (drop a text))))
+    sure-past (Within text) (triviaStep false text 0) _ (λ a.
+    sure-cond (Within text) (eqb (openingSentinel l p (drop a text)) 0) (refused 7 0) _ tt (some-end true text (a + openingSentinel l p (drop a text))))
 
 pub opening-end : (l : Language) (p : Prefix) (text : List ℕ) → Sure (Within text) (opening l p text)
 opening-end C p text = openingC-end p text
