@@ -15,7 +15,7 @@ use Rattle.rulebook.proofs.Finding.{indexOf, index-found}
 use Rattle.directive.specs.declared.Tally.{Tally}
 use Rattle.directive.specs.declared.Tally.the-variants.{Never, Once, Often}
 use Rattle.directive.specs.Name.{sameCompact, entriesWith, only, orCompact, entryOf, headFrom, isHead, mayGrow}
-use Rattle.directive.specs.Steps.{counted, tallyFrom, anyOf}
+use Rattle.directive.specs.Steps.{counted, tallyFrom, anyFrom}
 
 -- the only one
 abbrev pub onlyOf : Tally → Option ℕ
@@ -34,6 +34,17 @@ module _ (p : List ℕ → Bool) where
     pub tally-none : (t : Tally) (i n at : ℕ) → n ≡ 0 → tallyFrom p t i (entriesFrom lead n at bs) ≡ t
     unfolding tallyFrom entriesFrom
     tally-none t i n at e = rw e
+
+  -- the same of any
+  module _ (lead : ℕ) (bs : List ℕ) where
+    pub any-next : (n m at : ℕ) (r : Range) → n ≡ m + 1 → r ≡ nameAt lead at bs
+        → anyFrom p (entriesFrom lead n at bs) ≡ (p (part bs r) || anyFrom p (entriesFrom lead m (r .end) bs))
+    unfolding anyFrom entriesFrom
+    any-next n m at r e q = rw (e, add-one m, q)
+
+    pub any-none : (n at : ℕ) → n ≡ 0 → anyFrom p (entriesFrom lead n at bs) ≡ false
+    unfolding anyFrom entriesFrom
+    any-none n at e = rw e
 
   tally-often : (i : ℕ) (es : List Entry) → tallyFrom p Often i es ≡ Often
   unfolding tallyFrom
@@ -64,26 +75,11 @@ module _ (p : List ℕ → Bool) where
       go true ih = tally-once i (suc i) es
       go false ih = ih
 
--- any
-pub tally-any : (same : List ℕ → List ℕ → Bool) (c : List ℕ) (t : Tally) (i : ℕ) (es : List Entry)
-    → anyOf (tallyFrom (λ n. headFrom same [] n c) t i es) ≡ (anyOf t || isHead same c es)
-unfolding tallyFrom isHead
-tally-any same c t i [] = go t
-  where
-    go : (t : Tally) → anyOf t ≡ (anyOf t || false)
-    go Never = refl
-    go (Once k) = refl
-    go Often = refl
-tally-any same c t i (e ∷ es) =
-    tally-any same c (counted t (headFrom same [] (e .name) c) i) (suc i) es ∙ go t (headFrom same [] (e .name) c)
-  where
-    go : (t : Tally) (b : Bool) → (anyOf (counted t b i) || isHead same c es) ≡ (anyOf t || (b || isHead same c es))
-    go Never true = refl
-    go Never false = refl
-    go (Once k) true = refl
-    go (Once k) false = refl
-    go Often true = refl
-    go Often false = refl
+-- any: a beginning of one of the names
+any-head : (same : List ℕ → List ℕ → Bool) (c : List ℕ) (es : List Entry) → isHead same c es ≡ anyFrom (λ n. headFrom same [] n c) es
+unfolding anyFrom isHead
+any-head same c [] = refl
+any-head same c (e ∷ es) = rw (any-head same c es)
 
 -- the questions that a book answers, in these terms
 module _ (header : Header) (bs c : List ℕ) (e : header ≡ headerOf bs) where
@@ -95,10 +91,10 @@ module _ (header : Header) (bs c : List ℕ) (e : header ≡ headerOf bs) where
   entry-tallied =
       rw (e, index-found (comparing (headerOf bs .«ignores_case»)) 0 c (entriesIn (headerOf bs .directives) bs), ← tally-only (λ n. sameCompact n c) 0 (entriesIn (headerOf bs .directives) bs))
 
-  pub grow-tallied :
+  pub grow-any :
       mayGrow (bookOf bs) c
-      ≡ (anyOf (tallyFrom (λ n. headFrom (sameBy (comparing (header .«ignores_case»))) [] n c) Never 0 (entriesIn (header .directives) bs))
-      || (header .«optional_blanks» && anyOf (tallyFrom (λ n. headFrom sameCompact [] n c) Never 0 (entriesIn (header .directives) bs))))
+      ≡ (anyFrom (λ n. headFrom (sameBy (comparing (header .«ignores_case»))) [] n c) (entriesIn (header .directives) bs)
+      || (header .«optional_blanks» && anyFrom (λ n. headFrom sameCompact [] n c) (entriesIn (header .directives) bs)))
   unfolding mayGrow bookOf
-  grow-tallied =
-      rw (e, tally-any (sameBy (comparing (headerOf bs .«ignores_case»))) c Never 0 (entriesIn (headerOf bs .directives) bs), tally-any sameCompact c Never 0 (entriesIn (headerOf bs .directives) bs))
+  grow-any =
+      rw (e, any-head (sameBy (comparing (headerOf bs .«ignores_case»))) c (entriesIn (headerOf bs .directives) bs), any-head sameCompact c (entriesIn (headerOf bs .directives) bs))

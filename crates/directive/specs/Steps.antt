@@ -1,6 +1,6 @@
 -- The steps of the search for a name: a candidate in a buffer, its comparison with a name, the entries that it agrees with, and what follows a word.
 use Prim.Native.Nat.{ℕ, suc, _+_, _≤_, _<_}
-use mathlib.Core.Bool.{Bool, true, false, cond, _&&_}
+use mathlib.Core.Bool.{Bool, true, false, cond, _&&_, _||_}
 use mathlib.Core.Option.{Option, some, none}
 use mathlib.Core.List.{List, [], _∷_}
 use lib.ListN.{length, take, drop}
@@ -52,11 +52,10 @@ unfoldable pub tallyFrom : (List ℕ → Bool) → Tally → ℕ → List Entry 
 tallyFrom p t i [] = t
 tallyFrom p t i (e ∷ es) = tallyFrom p (counted t (p (e .name)) i) (suc i) es
 
--- any of them
-abbrev pub anyOf : Tally → Bool
-anyOf Never = false
-anyOf (Once i) = true
-anyOf Often = true
+-- any of the entries has a property
+unfoldable pub anyFrom : (List ℕ → Bool) → List Entry → Bool
+anyFrom p [] = false
+anyFrom p (e ∷ es) = p (e .name) || anyFrom p es
 
 -- a candidate of at most 512 bytes
 abbrev pub fitting : List ℕ → Option (List ℕ)

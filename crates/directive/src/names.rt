@@ -19,7 +19,7 @@ ghost use lib.Dec.{eqb};
 ghost use Rattle.ascii.specs.Text.{foundAt, comparing};
 ghost use Rattle.rulebook.specs.Book.{entriesIn, LaidIn, headerOf, bookOf};
 ghost use Rattle.directive.specs.Name.{entryOf, mayGrow};
-ghost use Rattle.directive.specs.Steps.{solidFrom, agreesIn, counted as countedWith, tallyFrom, anyOf};
+ghost use Rattle.directive.specs.Steps.{solidFrom, agreesIn, counted as countedWith, tallyFrom, anyFrom};
 
 fn same_byte(a: u8, b: u8, ignore_case: bool) -> bool
     ensures { λ r. ⌜ r ≡ eqb (comparing «ignore_case» a) (comparing «ignore_case» b) ⌝ }
@@ -107,14 +107,26 @@ fn tally(book: &[u8], entries: Entries, candidate: &[u8], how: Comparison) -> Ta
     seen
 }
 
-fn is_any(seen: Tally) -> bool
-    ensures { λ r. ⌜ r ≡ anyOf seen ⌝ }
+// Whether a candidate agrees with any of the entries.
+fn any_agrees(book: &[u8], entries: Entries, candidate: &[u8], how: Comparison) -> bool
+    requires { ⌜ LaidIn entries (now book) ⌝ }
+    ensures { λ r. ⌜ r ≡ anyFrom (λ n. agreesIn how n (now (candidate .entry))) (entriesIn entries (now (book .entry))) ⌝ }
 {
-    match seen {
-        Tally::Never => false,
-        Tally::Once(_) => true,
-        Tally::Often => true,
+    let lead = entries.lead;
+    let count = entries.count;
+    let mut at = entries.first;
+    let mut i = 0;
+    while i < count {
+        let range = name_at(book, lead, at);
+        let start = range.start;
+        let end = range.end;
+        if agrees(&book[start..end], candidate, how) {
+            return true;
+        }
+        at = end;
+        i += 1;
     }
+    false
 }
 
 // The entry of a candidate: the name itself, or else, where blanks in names are optional, the one name that is equal without them.
@@ -157,7 +169,7 @@ pub fn may_grow(book: &[u8], header: Header, candidate: &[u8]) -> bool
         compact: false,
         heads: true,
     };
-    if is_any(tally(book, directives, candidate, exact)) {
+    if any_agrees(book, directives, candidate, exact) {
         return true;
     }
     if !header.optional_blanks {
@@ -168,5 +180,5 @@ pub fn may_grow(book: &[u8], header: Header, candidate: &[u8]) -> bool
         compact: true,
         heads: true,
     };
-    is_any(tally(book, directives, candidate, compact))
+    any_agrees(book, directives, candidate, compact)
 }
