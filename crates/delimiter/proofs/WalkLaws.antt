@@ -1,7 +1,7 @@
 -- Laws of the scan's fault along its walk: a literal or comment without an end is the same one from every place that the walk passes, so a
 -- text whose scan is clean from a place on needs no second scan from a later one. Assumes nothing.
 use mathlib.Core.Path.{_≡_, refl, sym, ap, _∙_}
-use mathlib.Core.Bool.{Bool, true, false, cond, not, _||_}
+use mathlib.Core.Bool.{Bool, true, false, cond, _||_}
 use mathlib.Core.List.{List, [], _∷_}
 use Prim.Native.Nat.{ℕ, zero, suc, _+_, _-_, _<_, _≤_}
 use native.Mathlib.Omega.{arith}
@@ -19,7 +19,7 @@ use Rattle.delimiter.specs.declared.Piece.{Piece}
 use Rattle.delimiter.specs.declared.Piece.the-variants.{Code, Hidden, OpenQuote, OpenComment}
 use Rattle.delimiter.specs.declared.Match.{Match}
 use Rattle.delimiter.specs.declared.Match.the-variants.{ClosedAt, Unmatched, DeepAt}
-use Rattle.delimiter.specs.Code.{Scan, piece, rest, placed, scanFrom, scanAt}
+use Rattle.delimiter.specs.Code.{Scan, piece, isPlain, rest, placed, scanFrom, scanAt}
 use Rattle.delimiter.specs.Bracket.{Brackets, held, deep, wrong, isEmpty, taken}
 use Rattle.delimiter.specs.Matching.{matched, matchFrom, unlessOpen, matching}
 use Rattle.delimiter.proofs.Laws.{piece-is, scan-code, scan-hidden}
@@ -32,9 +32,10 @@ module _ (style : CommentStyle) (s : List ℕ) (i : ℕ) where
   pub fault-hidden : (n : ℕ) → i < length s → piece style (drop i s) ≡ Hidden n → 0 < n → scanAt style s i .fault ≡ scanAt style s (i + n) .fault
   fault-hidden n h e p = ap (λ (x : Scan). x .fault) (scan-hidden style s i n h e p)
 
-  -- a byte that is no quote, `/` or `!` is one of code
-  pub plain-code : i < length s → (eqb (getD s i 0) 39 || eqb (getD s i 0) 34 || eqb (getD s i 0) 47 || eqb (getD s i 0) 33) ≡ false → piece style (drop i s) ≡ Code
-  plain-code h e =
+  -- a plain byte is one of code
+  pub plain-code : i < length s → isPlain (getD s i 0) ≡ true → piece style (drop i s) ≡ Code
+  plain-code h t =
+      let e = not-true (eqb (getD s i 0) 39 || eqb (getD s i 0) 34 || eqb (getD s i 0) 47 || eqb (getD s i 0) 33) t in
       let a = or-none (eqb (getD s i 0) 39 || eqb (getD s i 0) 34 || eqb (getD s i 0) 47) (eqb (getD s i 0) 33) e in
       let b = or-none (eqb (getD s i 0) 39 || eqb (getD s i 0) 34) (eqb (getD s i 0) 47) (a .0) in
       piece-is style s i h ∙ rw (b .0, b .1, a .1) refl
@@ -116,14 +117,10 @@ pub match-clean : (style : CommentStyle) (s : List ℕ) (at : ℕ) → scanAt st
 unfolding matching
 match-clean style s at e = rw e refl
 
--- a byte that is no quote, `/` or `!`
-abbrev pub isPlain : ℕ → Bool
-isPlain b = not (eqb b 39 || eqb b 34 || eqb b 47 || eqb b 33)
-
--- a run of such bytes keeps the fault
+-- a run of plain bytes keeps the fault
 module _ (style : CommentStyle) (q : ℕ → Bool) (plain : (b : ℕ) → q b ≡ true → isPlain b ≡ true) where
   first : (x : ℕ) (xs : List ℕ) → isPlain x ≡ true → piece style (x ∷ xs) ≡ Code
-  first x xs e = plain-code style (x ∷ xs) 0 (omega arith) (not-true (eqb x 39 || eqb x 34 || eqb x 47 || eqb x 33) e)
+  first x xs e = plain-code style (x ∷ xs) 0 (omega arith) e
 
   one : (x : ℕ) (xs : List ℕ) (at : ℕ) → piece style (x ∷ xs) ≡ Code → scanFrom style 0 at (x ∷ xs) .fault ≡ scanFrom style 0 (suc at) xs .fault
   unfolding scanFrom

@@ -83,6 +83,10 @@ piece style (x ∷ xs) =
     (cond (eqb x 47) (slashed style xs)
     (cond (eqb x 33) (banged style xs) Code))
 
+-- a byte that begins no literal and no comment in any style
+abbrev pub isPlain : ℕ → Bool
+isPlain b = not (eqb b 39 || eqb b 34 || eqb b 47 || eqb b 33)
+
 -- a byte of code with its place
 pub record CodeByte : Type 0 where
   pub place : ℕ

@@ -9,7 +9,7 @@ ghost use Prim.Native.Nat.{_+_, _<_, _≤_};
 ghost use lib.ListN.{length, drop, getD};
 ghost use Rattle.ascii.specs.Ascii.{isEol};
 ghost use Rattle.ascii.specs.Text.{upTo};
-ghost use Rattle.delimiter.specs.Code.{isCLike, isFortran, more, endOf, escapes as hides, literal, blockEnd, quoted, commented, slashed, banged, piece, scanAt, onward, Fits, Ends};
+ghost use Rattle.delimiter.specs.Code.{isCLike, isFortran, more, endOf, escapes as hides, literal, blockEnd, quoted, commented, slashed, banged, piece, isPlain, scanAt, onward, Fits, Ends};
 
 // Whether a byte of a literal hides the one after it.
 fn escapes(style: CommentStyle, b: u8) -> bool
@@ -163,6 +163,13 @@ pub fn piece_at(text: &[u8], at: usize, style: CommentStyle) -> Piece
     Piece::Code
 }
 
+// Whether a byte begins no literal and no comment, in any style: most bytes, so that a walk asks this first.
+fn is_plain(b: u8) -> bool
+    ensures { λ r. ⌜ r ≡ isPlain b ⌝ }
+{
+    !((b == 39) | (b == 34) | (b == 47) | (b == 33))
+}
+
 // The first literal or comment without an end, from a place on.
 pub fn first_unclosed(text: &[u8], from: usize, style: CommentStyle) -> Unclosed
     requires { ⌜ from ≤ length (now text) ⌝ }
@@ -170,18 +177,22 @@ pub fn first_unclosed(text: &[u8], from: usize, style: CommentStyle) -> Unclosed
 {
     let mut i = from;
     while i < text.len() {
-        match piece_at(text, i, style) {
-            Piece::Code => {
-                i += 1;
-            }
-            Piece::Hidden(n) => {
-                i += n;
-            }
-            Piece::OpenQuote => {
-                return Unclosed::Quote(i);
-            }
-            Piece::OpenComment => {
-                return Unclosed::Comment(i);
+        if is_plain(text[i]) {
+            i += 1;
+        } else {
+            match piece_at(text, i, style) {
+                Piece::Code => {
+                    i += 1;
+                }
+                Piece::Hidden(n) => {
+                    i += n;
+                }
+                Piece::OpenQuote => {
+                    return Unclosed::Quote(i);
+                }
+                Piece::OpenComment => {
+                    return Unclosed::Comment(i);
+                }
             }
         }
     }
@@ -196,6 +207,9 @@ pub fn next_code(text: &[u8], from: usize, style: CommentStyle) -> usize
 {
     let mut i = from;
     while i < text.len() {
+        if is_plain(text[i]) {
+            return i;
+        }
         match piece_at(text, i, style) {
             Piece::Code => {
                 return i;
