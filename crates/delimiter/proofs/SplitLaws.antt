@@ -12,19 +12,16 @@ use Rattle.ascii.specs.Ascii.{isTrimmed}
 use Rattle.ascii.specs.declared.Range.{Range}
 use Rattle.ascii.proofs.Slots.{pushed}
 use Rattle.ascii.proofs.Flags.{or-none, by-cases}
-use Rattle.refusal.specs.Table.{numberOf}
 use Rattle.refusal.specs.Answer.{Answer, given, refused}
 use Rattle.delimiter.specs.declared.CommentStyle.the-variants.{Block}
 use Rattle.delimiter.specs.declared.Separator.{Separator}
 use Rattle.delimiter.specs.declared.Separator.the-variants.{Comma, Colon}
-use Rattle.delimiter.specs.declared.Effect.{Effect}
-use Rattle.delimiter.specs.declared.Effect.the-variants.{Held, Wrong, Deep}
 use Rattle.delimiter.specs.declared.Turn.{Turn}
 use Rattle.delimiter.specs.declared.Turn.the-variants.{Ends, Goes}
 use Rattle.delimiter.specs.Code.{scanAt, onward}
-use Rattle.delimiter.specs.Bracket.{isBracket, isEmpty, held, effectOf}
+use Rattle.delimiter.specs.Bracket.{isBracket, isEmpty, held, deep, wrong}
 use Rattle.delimiter.specs.Split.{separatorByte, nextSolid, solid, isMark, bracketed, turned, Splitting, fresh, item, segment, onBrackets, onTurn, consed, splitFrom, flat}
-use Rattle.delimiter.specs.Cutting.{isHeld, reasonOf, lastEnd, remaining, cut, Cuts, Waits, laid}
+use Rattle.delimiter.specs.Cutting.{lastEnd, remaining, cut, Cuts, Waits, laid}
 use Rattle.delimiter.proofs.Laws.{onward-code, onward-end}
 use Rattle.delimiter.proofs.Stack.{taken-plain}
 
@@ -42,11 +39,6 @@ module _ (s : List ℕ) (i : ℕ) where
   pub solid-none : length s ≤ i → nextSolid (onward Block s i) ≡ 0
   unfolding nextSolid
   solid-none h = rw (onward-end Block s i h) refl
-
-pub is-held : (e : Effect) (stack : List ℕ) → isHeld e ≡ true → effectOf e stack ≡ held stack
-is-held Held stack h = refl
-is-held Wrong stack h = absurd (true≢false (sym h))
-is-held Deep stack h = absurd (true≢false (sym h))
 
 pub last-cuts : (stack : List ℕ) (from n : ℕ) → from ≤ n → Cuts from n (lastEnd stack n)
 last-cuts [] from n h = omega arith
@@ -110,11 +102,11 @@ module _ (s : List ℕ) (separator : Separator) (angles : Bool) (room : ℕ) (st
     unfolding splitFrom
     split-step = rw (onward-code Block s i inside) refl
 
-    pub split-refused : (e : Effect) (stack : List ℕ) → isHeld e ≡ false → bracketed angles (st .previous) next (st .stack) (getD s i 0) ≡ effectOf e stack
-        → splitFrom s separator angles room st (onward Block s i) ≡ refused (numberOf (reasonOf e)) i
-    split-refused Held stack h e = absurd (true≢false h)
-    split-refused Wrong stack h e = split-step ∙ rw e refl
-    split-refused Deep stack h e = split-step ∙ rw e refl
+    pub split-wrong : bracketed angles (st .previous) next (st .stack) (getD s i 0) ≡ wrong → splitFrom s separator angles room st (onward Block s i) ≡ refused 17 i
+    split-wrong e = split-step ∙ rw e refl
+
+    pub split-deep : bracketed angles (st .previous) next (st .stack) (getD s i 0) ≡ deep → splitFrom s separator angles room st (onward Block s i) ≡ refused 13 i
+    split-deep e = split-step ∙ rw e refl
 
     pub split-mark : (stack : List ℕ) (j : ℕ) → isMark angles (getD s i 0) ≡ true
         → bracketed angles (st .previous) next (st .stack) (getD s i 0) ≡ held stack → scanAt Block s (i + 1) .codes ≡ onward Block s j

@@ -1,17 +1,18 @@
 -- Laws of the stack of open brackets in an array, and of bytes that are no brackets.
 -- Assumes nothing.
-use mathlib.Core.Path.{_≡_, refl, ap}
-use mathlib.Core.List.{List, _∷_}
-use mathlib.Core.Bool.{false}
+use mathlib.Core.Path.{_≡_, refl, sym, ap}
+use mathlib.Core.List.{List, [], _∷_}
+use mathlib.Core.Bool.{false, _&&_}
 use Prim.Native.Nat.{ℕ, zero, suc, _+_, _-_, _≤_, _<_}
 use native.Mathlib.Omega.{arith}
 use native.Mathlib.Numerals.{add-one}
-use lib.Dec.{eqb, eqb·suc-zero}
-use lib.ListN.{length, getD, set}
+use borrow.Author.Tests.{lt-ltb}
+use lib.Dec.{eqb, ltb, eqb·suc-zero}
+use lib.ListN.{length, drop, getD, set}
 use lib.Seq.{getD-set-same, getD-set-other}
 use Rattle.ascii.proofs.Flags.{or-none}
 use Rattle.delimiter.specs.declared.OpenBrackets.{OpenBrackets}
-use Rattle.delimiter.specs.Bracket.{isOpening, isClosing, isBracket, isEmpty, held, taken, stacked, openOf}
+use Rattle.delimiter.specs.Bracket.{isOpening, isClosing, isBracket, isEmpty, topIs, held, taken, stacked, openOf, Shows}
 
 pub length-stacked : (ks : List ℕ) (d : ℕ) → length (stacked ks d) ≡ d
 length-stacked ks zero = refl
@@ -43,3 +44,27 @@ stacked-top ks (suc d) h = let e : suc d - 1 ≡ d = omega arith in rw e
 pub taken-plain : (stack : List ℕ) (b : ℕ) → isBracket b ≡ false → taken stack b ≡ held stack
 unfolding taken
 taken-plain stack b e = let n = or-none (isOpening b) (isClosing b) e in rw (n .0, n .1) refl
+
+-- a stack as it is told by its size and its innermost bracket
+pub sized-empty : (d : ℕ) (stack : List ℕ) → length stack ≡ d → isEmpty stack ≡ eqb d 0
+sized-empty d [] e = rw (← e) refl
+sized-empty d (s ∷ r) e = rw (← e) (sym (eqb·suc-zero (length r)))
+
+pub shows-inner : (d k b : ℕ) (stack : List ℕ) → Shows d k stack → topIs b stack ≡ (ltb 0 d && eqb k b)
+shows-inner d k b [] v = rw (← (v .size)) refl
+shows-inner d k b (s ∷ r) v =
+    let h : 0 < d = let e = v .size in omega arith in
+    rw (lt-ltb 0 d h, ← (v .top h)) refl
+
+pub shows-open : (o : OpenBrackets) → Shows (o .depth) (getD (o .closing) (o .depth - 1) 0) (openOf o)
+unfolding openOf
+shows-open o = record { size = length-stacked (o .closing) (o .depth); top = λ h. rw (stacked-top (o .closing) (o .depth) h) refl }
+
+-- a bracket more and one less, made in place
+pub open-push : (o : OpenBrackets) (b : ℕ) → o .depth < length (o .closing) → openOf (record { closing = set (o .closing) (o .depth) b; depth = o .depth + 1 }) ≡ b ∷ openOf o
+unfolding openOf
+open-push o b h = stacked-push (o .closing) (o .depth) b h
+
+pub open-pop : (o : OpenBrackets) → 0 < o .depth → openOf (record { closing = o .closing; depth = o .depth - 1 }) ≡ drop 1 (openOf o)
+unfolding openOf
+open-pop o h = rw (stacked-top (o .closing) (o .depth) h)

@@ -1,5 +1,6 @@
 -- Brackets: the bytes of their kinds, and what a byte of code does to the open ones, given by their closing bytes, the innermost first.
-use Prim.Native.Nat.{ℕ, zero, suc, _+_}
+use mathlib.Core.Path.{_≡_}
+use Prim.Native.Nat.{ℕ, zero, suc, _<_}
 use mathlib.Core.Bool.{Bool, true, false, cond, _||_}
 use mathlib.Core.List.{List, [], _∷_}
 use lib.ListN.{length, drop, getD}
@@ -10,6 +11,8 @@ use Rattle.delimiter.specs.declared.OpenBrackets.{OpenBrackets}
 use Rattle.delimiter.specs.declared.Effect.{Effect}
 use Rattle.delimiter.specs.declared.Effect.the-variants.{Held, Wrong, Deep}
 use Rattle.delimiter.specs.declared.Stepped.{Stepped}
+use Rattle.delimiter.specs.declared.Change.{Change}
+use Rattle.delimiter.specs.declared.Change.the-variants as Change
 
 -- "The bracket kinds carry their own opening and closing bytes."
 abbrev pub openingOf : Bracket → ℕ
@@ -92,3 +95,24 @@ effectOf Deep stack = deep
 
 abbrev pub bracketsOf : Stepped → Brackets
 bracketsOf r = effectOf (r .effect) (openOf (r .open))
+
+-- a declared change, made to these brackets
+abbrev pub changed : Change → List ℕ → Brackets
+changed (Change.Push b) stack = held (b ∷ stack)
+changed Change.Pop stack = held (drop 1 stack)
+changed Change.Keep stack = held stack
+changed Change.Wrong stack = wrong
+changed Change.Deep stack = deep
+
+-- a change of so many brackets stays within the most, and takes away none where none is
+abbrev pub Suits : ℕ → Change → Type 0
+Suits depth (Change.Push b) = depth < maxDepth
+Suits depth Change.Pop = 0 < depth
+Suits depth Change.Keep = Unit {0}
+Suits depth Change.Wrong = Unit {0}
+Suits depth Change.Deep = Unit {0}
+
+-- so many brackets are open, and this byte closes the innermost
+pub record Shows (depth inner : ℕ) (stack : List ℕ) : Type 0 where
+  pub size : length stack ≡ depth
+  pub top : 0 < depth → getD stack 0 0 ≡ inner

@@ -1,6 +1,6 @@
 -- The split in the steps that the code takes: a segment, its item, the items that remain. What the inner functions promise.
 use Prim.Native.Nat.{ℕ, _+_, _-_, _≤_, _<_}
-use mathlib.Core.Bool.{Bool, true, false, cond}
+use mathlib.Core.Bool.{Bool, cond}
 use mathlib.Core.List.{List, [], _++_}
 use lib.ListN.{length, take}
 use lib.Dec.{leb}
@@ -8,15 +8,12 @@ use Rattle.ascii.specs.declared.Range.{Range}
 use Rattle.refusal.specs.Answer.{Answer, given, refused, refusedBy}
 use Rattle.refusal.specs.declared.Verdict.{Verdict}
 use Rattle.refusal.specs.declared.Verdict.the-variants.{Fine, Bad}
-use Rattle.refusal.specs.declared.Reason.{Reason}
-use Rattle.refusal.specs.declared.Reason.the-variants.{UnclosedComment, TooDeep, UnclosedQuote, WrongClosing, UnclosedBracket}
+use Rattle.refusal.specs.declared.Reason.the-variants.{UnclosedComment, UnclosedQuote, UnclosedBracket}
 use Rattle.refusal.specs.Verdict.{textVerdict}
 use Rattle.delimiter.specs.declared.CommentStyle.the-variants.{Block}
 use Rattle.delimiter.specs.declared.Unclosed.{Unclosed}
 use Rattle.delimiter.specs.declared.Unclosed.the-variants.{Nothing, Quote, Comment}
 use Rattle.delimiter.specs.declared.Separator.{Separator}
-use Rattle.delimiter.specs.declared.Effect.{Effect}
-use Rattle.delimiter.specs.declared.Effect.the-variants.{Held, Wrong, Deep}
 use Rattle.delimiter.specs.declared.Turn.{Turn}
 use Rattle.delimiter.specs.declared.Turn.the-variants.{Ends, Goes}
 use Rattle.delimiter.specs.declared.Segment.{Segment}
@@ -44,18 +41,6 @@ orElse (Bad r) v = Bad r
 unfoldable pub splitVerdict : List ℕ → Verdict
 unfolding scanFrom
 splitVerdict text = orElse (textVerdict text) (openVerdict (scanAt Block text 0 .fault))
-
--- an effect leaves some brackets open
-abbrev pub isHeld : Effect → Bool
-isHeld Held = true
-isHeld Wrong = false
-isHeld Deep = false
-
--- why an effect that leaves none is refused; rows 17 and 13
-abbrev pub reasonOf : Effect → Reason
-reasonOf Held = TooDeep
-reasonOf Wrong = WrongClosing
-reasonOf Deep = TooDeep
 
 -- the last segment, with these brackets open; row 18
 abbrev pub lastEnd : List ℕ → ℕ → Segment

@@ -1,13 +1,15 @@
 // The kinds of brackets with their bytes, and the stack of open ones by value, which matching and splitting share.
 use crate::Bracket;
+use crate::Change;
 use crate::Effect;
 use crate::OpenBrackets;
 use crate::Stepped;
 ghost use mathlib.Core.Path.{_≡_};
-ghost use mathlib.Core.List.{[], _∷_};
-ghost use Prim.Native.Nat.{_<_};
+ghost use mathlib.Core.Bool.{true};
+ghost use mathlib.Core.List.{List, [], _∷_};
+ghost use Prim.Native.Nat.{ℕ, _<_};
 ghost use lib.ListN.{length, drop};
-ghost use Rattle.delimiter.specs.Bracket.{openingOf, closingOf, isOpening, isClosing, isBracket, kindOf, closer, isEmpty, topIs, push, close, held, taken, openOf, bracketsOf};
+ghost use Rattle.delimiter.specs.Bracket.{openingOf, closingOf, isOpening, isClosing, isBracket, kindOf, closer, isEmpty, topIs, push, close, held, taken as takenBy, openOf, bracketsOf, changed, Shows, Suits};
 
 impl Bracket {
     pub const ROUND_OPEN: u8 = 40;
@@ -86,6 +88,14 @@ impl Bracket {
         ensures { λ r. ⌜ r ≡ isBracket b ⌝ }
     {
         Bracket::opens(b) | Bracket::closes(b)
+    }
+
+    // Whether b closes the innermost of so many open brackets, which inner closes.
+    pub fn is_inner(depth: usize, inner: u8, b: u8) -> bool
+        ensures { λ r. ⌜ ((stack : List ℕ) → Shows depth inner stack → topIs b stack ≡ r) ⌝ }
+        ensures { λ r. ⌜ (r ≡ true → 0 < depth) ⌝ }
+    {
+        (0 < depth) & (inner == b)
     }
 }
 
@@ -188,7 +198,7 @@ impl OpenBrackets {
 
     // What a byte of code does, by the three pairs.
     pub fn take(self, b: u8) -> Stepped
-        ensures { λ r. ⌜ bracketsOf r ≡ taken (openOf self) b ⌝ }
+        ensures { λ r. ⌜ bracketsOf r ≡ takenBy (openOf self) b ⌝ }
     {
         if Bracket::opens(b) {
             return self.opened(Bracket::partner(b));
@@ -197,5 +207,43 @@ impl OpenBrackets {
             return self.closed(b);
         }
         self.kept()
+    }
+}
+
+impl Change {
+    // One more, which b closes, beside so many.
+    pub fn opened(depth: usize, b: u8) -> Change
+        ensures { λ r. ⌜ ((stack : List ℕ) → length stack ≡ depth → changed r stack ≡ push b stack) ⌝ }
+        ensures { λ r. ⌜ Suits depth r ⌝ }
+    {
+        if depth < 256 {
+            return Change::Push(b);
+        }
+        Change::Deep
+    }
+
+    // The innermost of so many, which inner closes, is closed by b.
+    pub fn closed(depth: usize, inner: u8, b: u8) -> Change
+        ensures { λ r. ⌜ ((stack : List ℕ) → Shows depth inner stack → changed r stack ≡ close b stack) ⌝ }
+        ensures { λ r. ⌜ Suits depth r ⌝ }
+    {
+        if Bracket::is_inner(depth, inner, b) {
+            return Change::Pop;
+        }
+        Change::Wrong
+    }
+
+    // What a byte of code does, by the three pairs.
+    pub fn taken(depth: usize, inner: u8, b: u8) -> Change
+        ensures { λ r. ⌜ ((stack : List ℕ) → Shows depth inner stack → changed r stack ≡ takenBy stack b) ⌝ }
+        ensures { λ r. ⌜ Suits depth r ⌝ }
+    {
+        if Bracket::opens(b) {
+            return Change::opened(depth, Bracket::partner(b));
+        }
+        if Bracket::closes(b) {
+            return Change::closed(depth, inner, b);
+        }
+        Change::Keep
     }
 }

@@ -63,6 +63,15 @@ pub enum Effect {
     Deep,
 }
 
+// The same without the brackets: one more that this byte closes, the innermost less, no other; it closes none that it could, it is the 257th.
+pub enum Change {
+    Push(u8),
+    Pop,
+    Keep,
+    Wrong,
+    Deep,
+}
+
 // An effect, and the brackets that are open where it leaves some.
 pub struct Stepped {
     pub effect: Effect,

@@ -1,13 +1,12 @@
 // The split of a text at its top level: marks and separators, a segment, its item, the items one after the other.
 use crate::Bracket;
+use crate::Change;
 use crate::CommentStyle;
-use crate::Effect;
 use crate::NextItem;
 use crate::OpenBrackets;
 use crate::Segment;
 use crate::Separator;
 use crate::SplitAnswer;
-use crate::Stepped;
 use crate::Turn;
 use crate::Unclosed;
 use crate::code;
@@ -24,9 +23,9 @@ ghost use mathlib.Core.List.{List, []};
 ghost use Rattle.refusal.specs.Answer.{Answer};
 ghost use Rattle.delimiter.specs.declared.CommentStyle.the-variants.{Block};
 ghost use Rattle.delimiter.specs.Code.{scanAt};
-ghost use Rattle.delimiter.specs.Bracket.{openOf, bracketsOf};
+ghost use Rattle.delimiter.specs.Bracket.{changed, Shows, Suits};
 ghost use Rattle.delimiter.specs.Split.{separatorByte, nextSolid, solid as solidAfter, namesTemplate, angleOpened, angleClosed, isMark, bracketed, colonAt, turned, fresh, item, segment, splitFrom};
-ghost use Rattle.delimiter.specs.Cutting.{isHeld, reasonOf, lastEnd, splitVerdict, Waits, remaining, cut, Cuts, onItem, Lies, laid, outcome, writtenBy};
+ghost use Rattle.delimiter.specs.Cutting.{lastEnd, splitVerdict, Waits, remaining, cut, Cuts, onItem, Lies, laid, outcome, writtenBy};
 
 // The byte of a separator.
 pub fn separator_byte(separator: Separator) -> u8
@@ -77,55 +76,59 @@ fn is_mark(angles: bool, b: u8) -> bool
         | Bracket::is_one(b)
 }
 
-// What `<` at a place does to the open brackets.
-fn angle_opened(text: &[u8], at: usize, previous: u8, open: OpenBrackets) -> Stepped
+// What `<` at a place does to so many open brackets, the innermost of which inner closes.
+fn angle_opened(text: &[u8], at: usize, previous: u8, depth: usize, inner: u8) -> Change
     requires { ⌜ at < length (now text) ⌝ }
-    ensures { λ r. ⌜ bracketsOf r ≡ angleOpened previous (nextSolid (scanAt Block (now (text .entry)) (at + 1) .codes)) (openOf «open») ⌝ }
+    ensures { λ r. ⌜ ((stack : List ℕ) → Shows depth inner stack → changed r stack ≡ angleOpened previous (nextSolid (scanAt Block (now (text .entry)) (at + 1) .codes)) stack) ⌝ }
+    ensures { λ r. ⌜ Suits depth r ⌝ }
 {
-    let may = (open.is_empty() | open.top_is(Bracket::ANGLE_CLOSE)) & names_template(previous);
+    let angle = Bracket::is_inner(depth, inner, Bracket::ANGLE_CLOSE);
+    let may = ((depth == 0) | angle) & names_template(previous);
     if may {
         let next = next_solid(text, at + 1);
         let other = (next == b'=') | (next == Bracket::ANGLE_OPEN) | (next == Bracket::ANGLE_CLOSE);
         if other {
-            return open.kept();
+            return Change::Keep;
         }
-        return open.opened(Bracket::ANGLE_CLOSE);
+        return Change::opened(depth, Bracket::ANGLE_CLOSE);
     }
-    open.kept()
+    Change::Keep
 }
 
-// What `>` at a place does to the open brackets.
-fn angle_closed(text: &[u8], at: usize, open: OpenBrackets) -> Stepped
+// What `>` at a place does to so many open brackets, the innermost of which inner closes.
+fn angle_closed(text: &[u8], at: usize, depth: usize, inner: u8) -> Change
     requires { ⌜ at < length (now text) ⌝ }
-    ensures { λ r. ⌜ bracketsOf r ≡ angleClosed (nextSolid (scanAt Block (now (text .entry)) (at + 1) .codes)) (openOf «open») ⌝ }
+    ensures { λ r. ⌜ ((stack : List ℕ) → Shows depth inner stack → changed r stack ≡ angleClosed (nextSolid (scanAt Block (now (text .entry)) (at + 1) .codes)) stack) ⌝ }
+    ensures { λ r. ⌜ Suits depth r ⌝ }
 {
-    if open.top_is(Bracket::ANGLE_CLOSE) {
+    if Bracket::is_inner(depth, inner, Bracket::ANGLE_CLOSE) {
         if next_solid(text, at + 1) == b'=' {
-            return open.kept();
+            return Change::Keep;
         }
-        return open.closed(Bracket::ANGLE_CLOSE);
+        return Change::Pop;
     }
-    if open.is_empty() {
-        return open.closed(Bracket::ANGLE_CLOSE);
+    if depth == 0 {
+        return Change::Wrong;
     }
-    open.kept()
+    Change::Keep
 }
 
-// What a byte of code at a place does to the open brackets.
-fn bracket_step(text: &[u8], at: usize, angles: bool, previous: u8, open: OpenBrackets) -> Stepped
+// What a byte of code at a place does to so many open brackets, the innermost of which inner closes.
+fn change_at(text: &[u8], at: usize, angles: bool, previous: u8, depth: usize, inner: u8) -> Change
     requires { ⌜ at < length (now text) ⌝ }
-    ensures { λ r. ⌜ bracketsOf r ≡ bracketed angles previous (nextSolid (scanAt Block (now (text .entry)) (at + 1) .codes)) (openOf «open») (getD (now (text .entry)) at 0) ⌝ }
+    ensures { λ r. ⌜ ((stack : List ℕ) → Shows depth inner stack → changed r stack ≡ bracketed angles previous (nextSolid (scanAt Block (now (text .entry)) (at + 1) .codes)) stack (getD (now (text .entry)) at 0)) ⌝ }
+    ensures { λ r. ⌜ Suits depth r ⌝ }
 {
     let b = text[at];
     let opens = angles & (b == Bracket::ANGLE_OPEN);
     if opens {
-        return angle_opened(text, at, previous, open);
+        return angle_opened(text, at, previous, depth, inner);
     }
     let closes = angles & (b == Bracket::ANGLE_CLOSE);
     if closes {
-        return angle_closed(text, at, open);
+        return angle_closed(text, at, depth, inner);
     }
-    open.take(b)
+    Change::taken(depth, inner, b)
 }
 
 // What a colon at a place of the top level does to a split by colons.
@@ -189,39 +192,25 @@ fn refused_at(reason: Reason, place: usize) -> Segment
     Segment::Refused(Refusal { reason, place })
 }
 
-// Whether an effect leaves some brackets open.
-fn is_held(effect: Effect) -> bool
-    ensures { λ r. ⌜ r ≡ isHeld effect ⌝ }
+// The place of the innermost of so many; 0 where there is none.
+fn below(depth: usize) -> usize
+    ensures { λ r. ⌜ r ≡ depth - 1 ⌝ }
 {
-    match effect {
-        Effect::Held => true,
-        Effect::Wrong => false,
-        Effect::Deep => false,
-    }
-}
-
-// Why an effect that leaves none is refused.
-fn reason_of(effect: Effect) -> Reason
-    ensures { λ r. ⌜ r ≡ reasonOf effect ⌝ }
-{
-    match effect {
-        Effect::Held => Reason::TooDeep,
-        Effect::Wrong => Reason::WrongClosing,
-        Effect::Deep => Reason::TooDeep,
-    }
+    if depth == 0 { 0 } else { depth - 1 }
 }
 
 // The last segment, at the end of the text: refused where a bracket is open.
-fn last_end(open: OpenBrackets, end: usize) -> Segment
-    ensures { λ r. ⌜ r ≡ lastEnd (openOf «open») end ⌝ }
+fn last_end(depth: usize, end: usize) -> Segment
+    ensures { λ r. ⌜ ((stack : List ℕ) → length stack ≡ depth → r ≡ lastEnd stack end) ⌝ }
 {
-    if open.is_empty() {
+    if depth == 0 {
         return Segment::Upto(end);
     }
     refused_at(Reason::UnclosedBracket, end)
 }
 
-// The end of the segment that begins at a place, after byte before: a separator, or the end of the text.
+// The end of the segment that begins at a place, after byte before: a separator, or the end of the text. The open brackets change in place: they
+// are too many bytes to pass by value at each bracket.
 fn segment_end(text: &[u8], from: usize, before: u8, separator: Separator, angles: bool) -> Segment
     requires { ⌜ from ≤ length (now text) ⌝ }
     ensures { λ r. ⌜ ((room : ℕ) → splitFrom (now (text .entry)) separator angles room (fresh before from) (scanAt Block (now (text .entry)) from .codes) ≡ cut (now (text .entry)) separator angles room from r) ⌝ }
@@ -232,31 +221,31 @@ fn segment_end(text: &[u8], from: usize, before: u8, separator: Separator, angle
     let mut previous = before;
     let mut i = code::next_code(text, from, CommentStyle::Block);
     while i < text.len() {
-        let b = text[i];
-        if is_mark(angles, b) {
-            let step = bracket_step(text, i, angles, previous, open);
-            let effect = step.effect;
-            if !is_held(effect) {
-                return refused_at(reason_of(effect), i);
+        let at = i;
+        let last = previous;
+        let depth = open.depth;
+        previous = solid(text[at], last);
+        i = code::next_code(text, at + 1, CommentStyle::Block);
+        if is_mark(angles, text[at]) {
+            let inner = open.closing[below(depth)];
+            match change_at(text, at, angles, last, depth, inner) {
+                Change::Push(c) => {
+                    open.closing[depth] = c;
+                    open.depth = depth + 1;
+                }
+                Change::Pop => open.depth = depth - 1,
+                Change::Keep => {}
+                Change::Wrong => return refused_at(Reason::WrongClosing, at),
+                Change::Deep => return refused_at(Reason::TooDeep, at),
             }
-            open = step.open;
-            previous = solid(b, previous);
-            i = code::next_code(text, i + 1, CommentStyle::Block);
         } else {
-            let depth = open.depth;
-            match turn(text, i, separator, depth == 0, ternary, previous) {
-                Turn::Ends => {
-                    return Segment::Upto(i);
-                }
-                Turn::Goes(waiting) => {
-                    ternary = waiting;
-                }
+            match turn(text, at, separator, depth == 0, ternary, last) {
+                Turn::Ends => return Segment::Upto(at),
+                Turn::Goes(waiting) => ternary = waiting,
             }
-            previous = solid(b, previous);
-            i = code::next_code(text, i + 1, CommentStyle::Block);
         }
     }
-    last_end(open, text.len())
+    last_end(open.depth, text.len())
 }
 
 // The item of a segment, if it is not empty and there is room for one.
