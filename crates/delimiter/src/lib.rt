@@ -3,6 +3,7 @@ pub mod brackets;
 pub mod code;
 pub mod matching;
 pub mod split;
+pub mod walk;
 
 use ascii::Range;
 use refusal::Refusal;
