@@ -8,4 +8,5 @@ pub mod Properness
 pub mod Sequencing
 pub mod Starting
 pub mod Extents
+pub mod Cleanness
 pub mod Reading

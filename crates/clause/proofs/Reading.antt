@@ -44,7 +44,7 @@ use Rattle.clause.specs.declared.Progress.the-variants.{Going, Ended, Re
 use Rattle.clause.specs.declared.SequenceState.{SequenceState}
 use Rattle.clause.specs.Clause.{Read, clause, failed, deep, style, bareClause, closing, argument, wordLength, clauseAt}
 use Rattle.clause.specs.Sequence.{openComment, afterComma, separated, isUnsupported}
-use Rattle.clause.specs.Steps.{flagBook, reasonOf, Ready, still, stopped, behind, taken, onward, nextState, answerBy, answerOf, begunAt, startAt, refusedStart, startUnder}
+use Rattle.clause.specs.Steps.{flagBook, reasonOf, Ready, still, stopped, behind, cleanBehind, taken, onward, nextState, answerBy, answerOf, begunAt, startAt, refusedStart, startUnder}
 use Rattle.clause.proofs.Extents.{matching-within, starts-inside, clause-ends}
 
 -- the byte at a place, as what is left of the text begins with it
@@ -172,9 +172,9 @@ module _ (bk t : List ℕ) (s : SequenceState) where
         ∙ onward-reads (failed (numberOf (r .reason)) (r .place)) e
 
     pub onward-takes : (r : ClauseRecord) (end : ℕ) → clause r end ≡ clauseAt (bookOf bk) t (s .at)
-        → cond (eqb (s .left) 0) (stopped s NoSlot (s .at)) (behind (length t) s r (separated (flagBook (s .header .«ignores_case»)) t end)) ≡ onward (bookOf bk) t s Going
+        → cond (eqb (s .left) 0) (stopped s NoSlot (s .at)) (behind (length t) s r (cleanBehind s r end) (separated (flagBook (s .header .«ignores_case»)) t end)) ≡ onward (bookOf bk) t s Going
     onward-takes r end e =
-        ap (λ (f : Bool). cond (eqb (s .left) 0) (stopped s NoSlot (s .at)) (behind (length t) s r (separated (flagBook f) t end))) (sym (book-case bk (s .header) (ready .known)))
+        ap (λ (f : Bool). cond (eqb (s .left) 0) (stopped s NoSlot (s .at)) (behind (length t) s r (cleanBehind s r end) (separated (flagBook f) t end))) (sym (book-case bk (s .header) (ready .known)))
         ∙ onward-reads (clause r end) e
 
     pub clause-inside : (r : ClauseRecord) (end : ℕ) → clause r end ≡ clauseAt (bookOf bk) t (s .at) → end ≤ length t
@@ -188,9 +188,9 @@ pub answered : (s n : SequenceState) (p : Progress) → s ≡ n → s .progress 
 answered s n p e g = ap (answerBy s) (sym g) ∙ ap answerOf e
 
 -- the start
-pub start-is : (bk t : List ℕ) (left at : ℕ) (h : Header) (k s : Skipped) → h ≡ headerOf bk → k ≡ skip (h .«ignores_case») t at → k ≡ s → begunAt h left s ≡ startAt bk t left at
+pub start-is : (bk t : List ℕ) (left at : ℕ) (h : Header) (k s : Skipped) → h ≡ headerOf bk → k ≡ skip (h .«ignores_case») t at → k ≡ s → begunAt t h left s ≡ startAt bk t left at
 unfolding startAt
-start-is bk t left at h k s e g q = ap (begunAt h left) (sym q ∙ g) ∙ ap (λ (z : Header). begunAt z left (skip (z .«ignores_case») t at)) e
+start-is bk t left at h k s e g q = ap (begunAt t h left) (sym q ∙ g) ∙ ap (λ (z : Header). begunAt t z left (skip (z .«ignores_case») t at)) e
 
 no-fault : (o : Option ℕ) → _≡_ {A = Answer (Unit {0})} (given tt) (unlessFault 4 o (given tt)) → o ≡ none
 no-fault none e = refl

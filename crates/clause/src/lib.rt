@@ -80,6 +80,8 @@ pub struct SequenceState {
     pub left: usize,
     // clauses read
     pub count: usize,
+    // a place from which on no literal or comment is unclosed, so that the rest is not scanned anew for each clause
+    pub clean: usize,
 }
 
 // The answer with its slots, by value.

@@ -24,7 +24,7 @@ ghost use Rattle.rulebook.specs.Book.{bookOf, headerOf};
 ghost use Rattle.rulebook.specs.Check.{bookFault};
 ghost use Rattle.clause.specs.Clause.{style, closing, argument as argumentOf, clauseAt};
 ghost use Rattle.clause.specs.Sequence.{afterComma, separated};
-ghost use Rattle.clause.specs.Steps.{flagBook, bareRecord, readOf, separatedOf, WordIn};
+ghost use Rattle.clause.specs.Steps.{flagBook, bareRecord, readOf, separatedOf, WordIn, Clean};
 
 fn fails(reason: Reason, place: usize) -> ClauseRead
     ensures { λ r. ⌜ r ≡ ClauseRead.Failed (record { reason = reason; place = place }) ⌝ }
@@ -72,13 +72,13 @@ fn style_of(fortran: bool) -> CommentStyle
 }
 
 // The word with an argument, whose parenthesis opens at a place.
-fn closed(text: &[u8], word: ClauseWord, open: usize, fortran: bool) -> ClauseRead
-    requires { ⌜ WordIn (now text) word × ((word .end ≤ «open») × («open» < length (now text))) ⌝ }
+fn closed(text: &[u8], word: ClauseWord, open: usize, fortran: bool, clean: usize) -> ClauseRead
+    requires { ⌜ WordIn (now text) word × ((word .end ≤ «open») × ((«open» < length (now text)) × Clean fortran (now text) clean)) ⌝ }
     ensures { λ r. ⌜ readOf r ≡ closing (flagBook fortran) (now (text .entry)) (word .start) (word .end) (word .entry) «open»
         (matching (style (flagBook fortran) (now (text .entry))) (suc «open») (drop (suc «open») (now (text .entry)))) ⌝ }
 {
     let inner = open + 1;
-    match delimiter::matching::find_matching_parenthesis(text, inner, style_of(fortran)) {
+    match delimiter::walk::match_from(text, inner, style_of(fortran), clean) {
         Match::ClosedAt(close) => {
             let content = ascii::trim_between(text, inner, close);
             ClauseRead::Clause(
@@ -101,8 +101,14 @@ fn closed(text: &[u8], word: ClauseWord, open: usize, fortran: bool) -> ClauseRe
 }
 
 // The word with the argument behind it, which it needs or may have.
-fn with_argument(text: &[u8], word: ClauseWord, fortran: bool, needed: bool) -> ClauseRead
-    requires { ⌜ WordIn (now text) word ⌝ }
+fn with_argument(
+    text: &[u8],
+    word: ClauseWord,
+    fortran: bool,
+    needed: bool,
+    clean: usize,
+) -> ClauseRead
+    requires { ⌜ WordIn (now text) word × Clean fortran (now text) clean ⌝ }
     ensures { λ r. ⌜ readOf r ≡ argumentOf (flagBook fortran) (now (text .entry)) (word .start) (word .end) (word .entry)
         (cond needed ClauseRule.Parenthesized ClauseRule.Flexible) (skip fortran (now (text .entry)) (word .end)) ⌝ }
 {
@@ -110,7 +116,7 @@ fn with_argument(text: &[u8], word: ClauseWord, fortran: bool, needed: bool) -> 
         Skipped::OpenAt(place) => fails(Reason::UnclosedComment, place),
         Skipped::Past(place) => {
             if ascii::byte_at(text, place) == 40 {
-                return closed(text, word, place, fortran);
+                return closed(text, word, place, fortran, clean);
             }
             if needed {
                 return fails(Reason::NoParenthesis, place);
@@ -121,22 +127,29 @@ fn with_argument(text: &[u8], word: ClauseWord, fortran: bool, needed: bool) -> 
 }
 
 // The clause of a word, by its rule.
-fn argument(text: &[u8], word: ClauseWord, rule: ClauseRule, fortran: bool) -> ClauseRead
-    requires { ⌜ WordIn (now text) word ⌝ }
+fn argument(
+    text: &[u8],
+    word: ClauseWord,
+    rule: ClauseRule,
+    fortran: bool,
+    clean: usize,
+) -> ClauseRead
+    requires { ⌜ WordIn (now text) word × Clean fortran (now text) clean ⌝ }
     ensures { λ r. ⌜ readOf r ≡ argumentOf (flagBook fortran) (now (text .entry)) (word .start) (word .end) (word .entry)
         rule (skip fortran (now (text .entry)) (word .end)) ⌝ }
 {
     match rule {
         ClauseRule::Bare => bare(word),
-        ClauseRule::Parenthesized => with_argument(text, word, fortran, true),
-        ClauseRule::Flexible => with_argument(text, word, fortran, false),
+        ClauseRule::Parenthesized => with_argument(text, word, fortran, true, clean),
+        ClauseRule::Flexible => with_argument(text, word, fortran, false, clean),
         ClauseRule::Unsupported => fails(Reason::NoClause, word.end),
     }
 }
 
-// The clause at a place, under a book that is valid.
-pub fn read_clause(book: &[u8], header: Header, text: &[u8], at: usize) -> ClauseRead
+// The clause at a place, under a book that is valid, where nothing is unclosed from another place on.
+pub fn read_clause(book: &[u8], header: Header, text: &[u8], at: usize, clean: usize) -> ClauseRead
     requires { ⌜ (bookFault (now book) ≡ none) × ((header ≡ headerOf (now book)) × ((length (now text) ≤ maxLength) × (at ≤ length (now text)))) ⌝ }
+    requires { ⌜ Clean (header .«ignores_case») (now text) clean ⌝ }
     ensures { λ r. ⌜ readOf r ≡ clauseAt (bookOf (now (book .entry))) (now (text .entry)) at ⌝ }
 {
     let end = ascii::run_end(text, at, ByteSet::Word);
@@ -150,7 +163,7 @@ pub fn read_clause(book: &[u8], header: Header, text: &[u8], at: usize) -> Claus
         end,
         entry: found.index,
     };
-    argument(text, word, rule, header.ignores_case)
+    argument(text, word, rule, header.ignores_case, clean)
 }
 
 fn after_comma(skipped: Skipped, comma: bool) -> Separation

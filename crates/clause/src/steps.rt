@@ -27,7 +27,7 @@ ghost use Rattle.refusal.specs.Answer.{maxLength};
 ghost use Rattle.rulebook.specs.Book.{bookOf};
 ghost use Rattle.rulebook.specs.Check.{bookFault};
 ghost use Rattle.clause.specs.Sequence.{separated, isUnsupported};
-ghost use Rattle.clause.specs.Steps.{flagBook, Proper, Ready, noHeader, begun as begunOf, refusedStart, startAt, startOf, still as stillOf, stopped as stoppedOf, gone as goneOf, behind as behindOf, onward as onwardOf, nextState, answerOf, keptOf};
+ghost use Rattle.clause.specs.Steps.{flagBook, Proper, Ready, noHeader, begun as begunOf, refusedStart, startAt, startOf, still as stillOf, stopped as stoppedOf, gone as goneOf, behind as behindOf, cleanBehind, onward as onwardOf, nextState, answerOf, keptOf};
 
 // The header where a book has none.
 fn no_header() -> Header
@@ -47,8 +47,8 @@ fn no_header() -> Header
     }
 }
 
-fn begun(header: Header, progress: Progress, at: usize, slots: usize) -> SequenceState
-    ensures { λ r. ⌜ r ≡ begunOf header progress at slots ⌝ }
+fn begun(header: Header, progress: Progress, at: usize, slots: usize, clean: usize) -> SequenceState
+    ensures { λ r. ⌜ r ≡ begunOf header progress at slots clean ⌝ }
 {
     SequenceState {
         clause: records::zero_record(),
@@ -58,6 +58,7 @@ fn begun(header: Header, progress: Progress, at: usize, slots: usize) -> Sequenc
         comma: false,
         left: slots,
         count: 0,
+        clean,
     }
 }
 
@@ -65,7 +66,7 @@ fn begun(header: Header, progress: Progress, at: usize, slots: usize) -> Sequenc
 pub fn refused_start(slots: usize, refusal: Refusal) -> SequenceState
     ensures { λ r. ⌜ r ≡ refusedStart slots refusal ⌝ }
 {
-    begun(no_header(), Progress::Refused(refusal), 0, slots)
+    begun(no_header(), Progress::Refused(refusal), 0, slots, 0)
 }
 
 // The start at a place of a text, under a book that is valid, with so many slots.
@@ -75,7 +76,7 @@ pub fn start_at(book: &[u8], text: &[u8], at: usize, slots: usize) -> SequenceSt
 {
     let header = rulebook::lookup::read_header(book);
     match lexer::trivia::skip(text, at, header.ignores_case) {
-        Skipped::Past(place) => begun(header, Progress::Going, place, slots),
+        Skipped::Past(place) => begun(header, Progress::Going, place, slots, text.len()),
         Skipped::OpenAt(place) => begun(
             header,
             Progress::Refused(Refusal {
@@ -84,6 +85,7 @@ pub fn start_at(book: &[u8], text: &[u8], at: usize, slots: usize) -> SequenceSt
             }),
             place,
             slots,
+            text.len(),
         ),
     }
 }
@@ -114,6 +116,7 @@ fn still(s: SequenceState, progress: Progress) -> SequenceState
         comma: s.comma,
         left: s.left,
         count: s.count,
+        clean: s.clean,
     }
 }
 
@@ -142,11 +145,12 @@ fn gone(
     size: usize,
     s: SequenceState,
     clause: ClauseRecord,
+    clean: usize,
     comma: bool,
     next: usize,
 ) -> SequenceState
     requires { ⌜ (0 < s .left) × (s .count ≤ maxLength) ⌝ }
-    ensures { λ r. ⌜ r ≡ goneOf size s clause comma next ⌝ }
+    ensures { λ r. ⌜ r ≡ goneOf size s clause clean comma next ⌝ }
 {
     let header = s.header;
     let mut flagged = clause;
@@ -160,21 +164,30 @@ fn gone(
         comma,
         left: s.left - 1,
         count: s.count + 1,
+        clean,
     }
+}
+
+// Behind a parenthesis that has its match nothing is unclosed.
+fn clean_behind(s: SequenceState, clause: ClauseRecord, end: usize) -> usize
+    ensures { λ r. ⌜ r ≡ cleanBehind s clause end ⌝ }
+{
+    if clause.parenthesized { end } else { s.clean }
 }
 
 // A clause that was read, up to a place: a slot for it, and what follows.
 fn took(text: &[u8], s: SequenceState, clause: ClauseRecord, end: usize) -> SequenceState
     requires { ⌜ (end ≤ length (now text)) × (s .count ≤ maxLength) ⌝ }
     ensures { λ r. ⌜ r ≡ cond (eqb (s .left) 0) (stoppedOf s Reason.NoSlot (s .at))
-        (behindOf (length (now (text .entry))) s clause (separated (flagBook (s .header .«ignores_case»)) (now (text .entry)) end)) ⌝ }
+        (behindOf (length (now (text .entry))) s clause (cleanBehind s clause end) (separated (flagBook (s .header .«ignores_case»)) (now (text .entry)) end)) ⌝ }
 {
     if s.left == 0 {
         return stopped(s, Reason::NoSlot, s.at);
     }
     let header = s.header;
+    let clean = clean_behind(s, clause, end);
     match single::separation(text, end, header.ignores_case) {
-        Separation::Then(comma, next) => gone(text.len(), s, clause, comma, next),
+        Separation::Then(comma, next) => gone(text.len(), s, clause, clean, comma, next),
         Separation::OpenAt(place) => stopped(s, Reason::UnclosedComment, place),
     }
 }
@@ -189,7 +202,7 @@ fn onward(book: &[u8], text: &[u8], s: SequenceState) -> SequenceState
         return still(s, Progress::Ended);
     }
     let header = s.header;
-    match single::read_clause(book, header, text, at) {
+    match single::read_clause(book, header, text, at, s.clean) {
         ClauseRead::Clause(clause, end) => took(text, s, clause, end),
         ClauseRead::Failed(refusal) => judged(s, refusal),
         ClauseRead::Deep(place) => stopped(s, Reason::TooDeep, place),

@@ -16,7 +16,7 @@ within : (c : tie.After-known-told) →
     (a .«open» + 1 ≤ q) × (q < length (a .text .now))
 within c =
     let p = c .before .before .before .before .before .before .pre in
-    closed-within _ _ _ _ (omega (arith, p .1 .1)) (sym (c .before .before .before .find-matching-parenthesis .ensures .0) ∙ c .before .close .given .1)
+    closed-within _ _ _ _ (omega (arith, p .1 .1 .0)) (sym (c .before .before .before .match-from .ensures .0) ∙ c .before .close .given .1)
 
 returns : tie.Need-returns
 returns c =
@@ -24,18 +24,24 @@ returns c =
     let k : tie.After-known-told = c .before .before .before .before .before in
     rw (c .before .before .before .narrow .ensures, c .before .before .narrow2 .ensures, c .before .narrow3 .ensures, c .narrow4 .ensures)
     (content-is (a .fortran) (a .text .now) (a .word) (a .«open») _ _ (c .before .before .before .before .trim-between .ensures .0)
-    ∙ match-is (a .fortran) (a .text .now) (a .word) (a .«open») _ _ (k .before .before .before .before .style-of .ensures) (sym (k .before .close .given .1) ∙ k .before .before .before .find-matching-parenthesis .ensures .0))
+    ∙ match-is (a .fortran) (a .text .now) (a .word) (a .«open») _ _ (k .before .before .before .before .style-of .ensures) (sym (k .before .close .given .1) ∙ k .before .before .before .match-from .ensures .0))
 
 returns-2 : tie.Need-returns-2
 returns-2 c =
     let a = c .before .before .before .before .before .before .args in
     rw (c .fails .ensures)
-    (match-is (a .fortran) (a .text .now) (a .word) (a .«open») _ _ (c .before .before .before .before .style-of .ensures) (sym (c .before .enum-told .given .1) ∙ c .before .before .before .find-matching-parenthesis .ensures .0))
+    (match-is (a .fortran) (a .text .now) (a .word) (a .«open») _ _ (c .before .before .before .before .style-of .ensures) (sym (c .before .enum-told .given .1) ∙ c .before .before .before .match-from .ensures .0))
 
 returns-3 : tie.Need-returns-3
 returns-3 c =
     let a = c .before .before .before .before .before .before .args in
-    match-is (a .fortran) (a .text .now) (a .word) (a .«open») _ _ (c .before .before .before .before .style-of .ensures) (sym (c .before .place .given .1) ∙ c .before .before .before .find-matching-parenthesis .ensures .0)
+    match-is (a .fortran) (a .text .now) (a .word) (a .«open») _ _ (c .before .before .before .before .style-of .ensures) (sym (c .before .place .given .1) ∙ c .before .before .before .match-from .ensures .0)
+
+-- the style of the match is that of the clean place
+matches : tie.Need-match-from-requires
+matches c κs =
+    let p = c .before .before .pre in
+    (omega (arith, p .1 .1 .0), (p .1 .1 .1 .within, rw (c .style-of .ensures) (p .1 .1 .1 .nothing)))
 
 pub closed-spec : {M : Type 1} → statement M
 closed-spec =
@@ -43,7 +49,7 @@ closed-spec =
     (tie.spec
     (λ c. search needs)
     (λ c κs. search needs)
-    (λ c κs. search needs)
+    matches
     (λ c. search needs)
     (λ c κs. omega (arith, within c))
     (λ c κs. search needs)

@@ -12,7 +12,7 @@ opens : tie.Need-closed-requires
 opens c κs =
     let a = c .before .before .before .before .before .before .before .args in
     let i = subst (Inside _ _) (c .before .before .before .place2 .given .1) (c .before .before .before .before .before .skip .ensures .1) in
-    (c .before .before .before .before .before .before .before .pre, (i .0, byte-inside 39 (c .before .before .before .place2 .given .0 .0) (a .text .now) (sym (c .before .byte-at .ensures) ∙ c .if1 .taken)))
+    (c .before .before .before .before .before .before .before .pre .0, (i .0, (byte-inside 39 (c .before .before .before .place2 .given .0 .0) (a .text .now) (sym (c .before .byte-at .ensures) ∙ c .if1 .taken), c .before .before .before .before .before .before .before .pre .1)))
 
 returns : tie.Need-returns
 returns c =
@@ -53,6 +53,6 @@ with-argument-spec =
     returns
     (λ c κs. search needs)
     returns-2
-    (λ c κs. omega (arith, c .before .before .before .before .before .before .before .before .pre .short, c .before .before .before .before .before .before .before .before .pre .some-bytes, c .before .before .before .before .before .before .before .before .pre .inside))
+    (λ c κs. omega (arith, c .before .before .before .before .before .before .before .before .pre .0 .short, c .before .before .before .before .before .before .before .before .pre .0 .some-bytes, c .before .before .before .before .before .before .before .before .pre .0 .inside))
     returns-3
     returns-4)
