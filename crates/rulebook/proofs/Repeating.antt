@@ -1,6 +1,6 @@
 -- An entry repeats an earlier name where the name is found among the earlier ones: the laws of repeats in the terms of a loop.
 -- Assumes nothing.
-use mathlib.Core.Path.{_≡_, refl, _∙_}
+use mathlib.Core.Path.{_≡_, refl}
 use mathlib.Core.Bool.{Bool, true, false, cond, _||_}
 use mathlib.Core.Option.{some, none}
 use mathlib.Core.List.{List, [], _∷_}
@@ -17,12 +17,12 @@ use Rattle.rulebook.specs.Lookup.{findFrom}
 use Rattle.rulebook.proofs.Laying.{entries-snoc}
 
 -- a name that is found is an entry's
-isFound : EntryFound → Bool
+abbrev pub isFound : EntryFound → Bool
 isFound (At i p) = true
 isFound Nothing = false
 
-named-found : (f : ℕ → ℕ) (i : ℕ) (name : List ℕ) (es : List Entry) → isNamed f name es ≡ isFound (findFrom f i name es)
-unfolding isNamed findFrom isFound
+pub named-found : (f : ℕ → ℕ) (i : ℕ) (name : List ℕ) (es : List Entry) → isNamed f name es ≡ isFound (findFrom f i name es)
+unfolding isNamed findFrom
 named-found f i name [] = refl
 named-found f i name (e ∷ es) = go (sameBy f (e .name) name) (named-found f (suc i) name es)
   where
@@ -32,18 +32,14 @@ named-found f i name (e ∷ es) = go (sameBy f (e .name) name) (named-found f (s
     go false h = h
 
 module _ (lead : ℕ) (bs : List ℕ) (n m at : ℕ) (r : Range) (e : n ≡ m + 1) (q : r ≡ nameAt lead at bs) where
-  pub repeat-here : (earlier : List Entry) (j p : ℕ) → findFrom fold 0 (part bs r) earlier ≡ At j p → repeatFrom earlier (entriesFrom lead n at bs) ≡ some at
-  unfolding entriesFrom repeatFrom isFound
-  repeat-here earlier j p h =
-      let t : isNamed fold (part bs (nameAt lead at bs)) earlier ≡ true = named-found fold 0 _ earlier ∙ rw (rw q at h) in
-      rw (e, add-one m, t)
+  pub repeat-here : (earlier : List Entry) → isNamed fold (part bs r) earlier ≡ true → repeatFrom earlier (entriesFrom lead n at bs) ≡ some at
+  unfolding entriesFrom repeatFrom
+  repeat-here earlier h = rw (e, add-one m, rw q at h)
 
-  pub repeat-later : (done first : ℕ) → at ≡ placeAfter lead done first bs → findFrom fold 0 (part bs r) (entriesFrom lead done first bs) ≡ Nothing
+  pub repeat-later : (done first : ℕ) → at ≡ placeAfter lead done first bs → isNamed fold (part bs r) (entriesFrom lead done first bs) ≡ false
       → repeatFrom (entriesFrom lead done first bs) (entriesFrom lead n at bs) ≡ repeatFrom (entriesFrom lead (done + 1) first bs) (entriesFrom lead m (r .end) bs)
-  unfolding entriesFrom repeatFrom isFound
-  repeat-later done first p h =
-      let t : isNamed fold (part bs (nameAt lead at bs)) (entriesFrom lead done first bs) ≡ false = named-found fold 0 _ (entriesFrom lead done first bs) ∙ rw (rw q at h) in
-      rw (e, add-one m, t, q, entries-snoc lead bs done first, ← p)
+  unfolding entriesFrom repeatFrom
+  repeat-later done first p h = rw (e, add-one m, rw q at h, q, entries-snoc lead bs done first, ← p)
 
 pub repeat-none : (lead : ℕ) (bs : List ℕ) (n at : ℕ) (earlier : List Entry) → n ≡ 0 → repeatFrom earlier (entriesFrom lead n at bs) ≡ none
 unfolding entriesFrom repeatFrom

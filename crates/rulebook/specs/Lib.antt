@@ -2,5 +2,6 @@ pub mod Format
 pub mod Book
 pub mod Check
 pub mod Lookup
+pub mod Signature
 pub mod Examples
 pub mod Grammar

@@ -1,28 +1,31 @@
--- `rulebook::repeats::repeat_among` meets its contract: the entries that are left repeat, after those that are done, what all of them repeat.
--- Assumes nothing.
+-- `rulebook::repeats::repeat_among` meets its contract: the entries that are left repeat, after those that are done, what all of them repeat,
+-- and the signatures of those that are done are marked. Assumes nothing.
 use mathlib.Core.Path.{_≡_, refl, sym, _∙_}
 use mathlib.Core.List.{[]}
 use Prim.Native.Nat.{_+_, _-_, _<_, _≤_}
 use native.Mathlib.Omega.{arith}
-use lib.ListN.{length}
+use lib.ListN.{length, length-set}
 use borrow.Author.Needs.{needs}
 use Rattle.rulebook.specs.Book.{Laid, entriesFrom, placeAfter}
 use Rattle.rulebook.specs.Check.{repeatFrom}
 use Rattle.rulebook.proofs.Laying.{laid-name, laid-next, laid-fewer, place-snoc}
 use Rattle.rulebook.proofs.Repeating.{repeat-here, repeat-later, repeat-none}
+use Rattle.rulebook.proofs.Signatures.{Marked, marked-none, marked-next}
 use Rattle.rulebook.proofs.repeats.repeat_among.Statement.{statement}
 use Rattle.rulebook.proofs.repeats.repeat_among.Tie as tie
 
 abbrev Inv-loop : tie.InvT-loop
-Inv-loop book lead first count at₀ done₀ at done =
+Inv-loop book lead first count seen₀ at₀ done₀ seen at done =
     (done ≤ count)
     × Laid lead count first book
     × Laid lead (count - done) at book
     × (at ≡ placeAfter lead done first book)
     × (repeatFrom (entriesFrom lead done first book) (entriesFrom lead (count - done) at book) ≡ repeatFrom [] (entriesFrom lead count first book))
+    × (length seen ≡ 4096)
+    × Marked seen (entriesFrom lead done first book)
 
 abbrev μ-loop : tie.MeasureT-loop
-μ-loop book lead first count at₀ done₀ at done = count - done
+μ-loop book lead first count seen₀ at₀ done₀ seen at done = count - done
 
 -- the name at the loop's place lies inside the book, and so do the entries after it
 next : (c : tie.After-name-at Inv-loop μ-loop) →
@@ -39,28 +42,36 @@ unfolding entriesFrom placeAfter
 loop-holds c =
     let n = c .before .args .entries .count in
     let q : n - 0 ≡ n = omega arith in
-    (omega arith, c .before .pre, rw q (c .before .pre), refl, rw q)
+    (omega arith, c .before .pre, rw q (c .before .pre), refl, rw q, refl, marked-none _)
+
+is-repeat-requires : tie.Need-is-repeat-requires Inv-loop μ-loop
+is-repeat-requires c κs =
+    let l = c .before .before .before .before .before .loop in
+    (laid-fewer _ _ (l .done) _ _ (l .inv .0) (l .inv .1), λ h. l .inv .6 .unseen _ (rw (c .before .signature .ensures .1) at h))
 
 returns : tie.Need-returns Inv-loop μ-loop
 returns c =
-    let m : tie.After-name-at Inv-loop μ-loop = c .before .before .before .before in
+    let m : tie.After-name-at Inv-loop μ-loop = c .before .before .before .before .before in
     let l = m .before .before .loop in
     let n = m .before .before .before .before .args .entries .count in
-    let h = sym (c .before .before .find-entry .ensures) ∙ c .enum-told .given .1 in
-    sym (repeat-here _ _ (n - l .done) (n - (l .done + 1)) (l .at) _ (omega arith) (m .name-at .ensures) _ _ _ h) ∙ l .inv .4
+    let h = sym (c .before .is-repeat .ensures) ∙ c .if1 .taken in
+    sym (repeat-here _ _ (n - l .done) (n - (l .done + 1)) (l .at) _ (omega arith) (m .name-at .ensures) _ h) ∙ l .inv .4
 
 loop-again : tie.Need-loop-again Inv-loop μ-loop
 loop-again c =
-    let m : tie.After-name-at Inv-loop μ-loop = c .before .before .before .before in
+    let s : tie.After-signature Inv-loop μ-loop = c .before .before .before in
+    let m : tie.After-name-at Inv-loop μ-loop = s .before .before in
     let l = m .before .before .loop in
     let a = m .before .before .before .before .args in
     let n = a .entries .count in
-    let h = sym (c .before .before .find-entry .ensures) ∙ c .enum-told2 .given .1 in (
+    let h = sym (c .before .is-repeat .ensures) ∙ c .if1 .left in (
       omega arith,
       l .inv .1,
       next m .2,
       rw (place-snoc (a .entries .lead) (a .book .now) (l .done) (a .entries .first), ← (l .inv .3), m .name-at .ensures),
       sym (repeat-later _ _ (n - l .done) (n - (l .done + 1)) (l .at) _ (omega arith) (m .name-at .ensures) (l .done) (a .entries .first) (l .inv .3) h) ∙ l .inv .4,
+      rw length-set (l .inv .5),
+      marked-next _ _ (l .at) (l .done) (a .entries .first) (m .name-at .result) (l .seen) (s .signature .result) (l .inv .3) (m .name-at .ensures) (omega (arith, s .signature .ensures .0, l .inv .5)) (s .signature .ensures .1) (l .inv .6),
     )
 
 pub repeat-among-spec : {M : Type 1} → statement M
@@ -74,10 +85,14 @@ repeat-among-spec =
     (λ c. omega (arith, next c))
     (λ c. omega (arith, next c))
     (λ c. next c .1)
-    (λ c κs. let l = c .before .before .before .loop in laid-fewer _ _ (l .done) _ _ (l .inv .0) (l .inv .1))
-    (λ c. search needs)
+    (λ c κs. search needs)
+    (λ c. omega (arith, next (c .before .before)))
+    (λ c. omega (arith, next (c .before .before)))
+    (λ c. next (c .before .before) .1)
+    (λ c. c .before .signature .ensures .0)
+    is-repeat-requires
     returns
-    (λ c. search needs)
+    (λ c. c .before .before .before .signature .ensures .0)
     (λ c. omega arith)
     (λ c. omega arith)
     loop-again
