@@ -27,14 +27,14 @@ pub fn quote_end(text: &[u8], from: usize, q: u8, style: CommentStyle) -> End
     let mut i = from;
     while i < text.len() {
         let b = text[i];
-        let next = ascii::byte_at(text, i + 1);
-        let both = escapes(style, b) | ((b == q) & (next == q));
-        if both {
+        if escapes(style, b) {
             i += 2;
-        } else {
-            if b == q {
+        } else if b == q {
+            if ascii::byte_at(text, i + 1) != q {
                 return End::Before(i + 1);
             }
+            i += 2;
+        } else {
             i += 1;
         }
     }
@@ -49,12 +49,14 @@ pub fn block_end(text: &[u8], from: usize) -> End
 {
     let mut i = from;
     while i < text.len() {
-        let next = ascii::byte_at(text, i + 1);
-        let closes = (text[i] == 42) & (next == 47);
-        if closes {
-            return End::Before(i + 2);
+        if text[i] == 42 {
+            if ascii::byte_at(text, i + 1) == 47 {
+                return End::Before(i + 2);
+            }
+            i += 1;
+        } else {
+            i += 1;
         }
-        i += 1;
     }
     End::Never
 }

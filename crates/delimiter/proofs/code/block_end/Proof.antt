@@ -4,6 +4,7 @@ use mathlib.Core.Path.{_≡_, refl, sym, _∙_}
 use Prim.Native.Nat.{_-_, _≤_}
 use native.Mathlib.Omega.{arith}
 use borrow.Author.Needs.{needs}
+use borrow.Author.Tests.{eq-eqb, ne-eqb}
 use lib.ListN.{length, drop}
 use Rattle.delimiter.specs.Code.{more, blockEnd}
 use Rattle.delimiter.proofs.Laws.{block-closed, block-plain, block-none, block-within}
@@ -18,16 +19,27 @@ abbrev μ-loop : tie.MeasureT-loop
 
 returns : tie.Need-returns Inv-loop μ-loop
 returns c =
-    let l : tie.In-loop Inv-loop μ-loop = c .before .before .before in
-    let e = rw (c .before .before .byte-at .ensures) at (c .if1 .taken) in
-    let w = block-within (l .before .before .before .args .text .now) (l .before .loop .i) e in
-    (sym (block-closed _ _ (l .loop-test .taken) e) ∙ l .before .loop .inv .2, omega arith)
+    let b : tie.After-byte-at Inv-loop μ-loop = c .before in
+    let l : tie.In-loop Inv-loop μ-loop = b .before .before .before in
+    let s = l .before .before .before .args .text .now in
+    let f = eq-eqb _ _ (b .before .if1 .taken) in
+    let g = eq-eqb _ _ (sym (b .byte-at .ensures) ∙ c .if2 .taken) in
+    let w = block-within s (l .before .loop .i) (rw (f, g) refl) in
+    (sym (block-closed s _ (l .loop-test .taken) (rw (f, g) refl)) ∙ l .before .loop .inv .2, omega arith)
 
 loop-again : tie.Need-loop-again Inv-loop μ-loop
 loop-again c =
-    let l : tie.In-loop Inv-loop μ-loop = c .before .before .before in
-    let e = rw (c .before .before .byte-at .ensures) at (c .if1 .left) in
-    (omega arith, omega arith, sym (block-plain _ _ (l .loop-test .taken) e) ∙ l .before .loop .inv .2)
+    let b : tie.After-byte-at Inv-loop μ-loop = c .before in
+    let l : tie.In-loop Inv-loop μ-loop = b .before .before .before in
+    let f = eq-eqb _ _ (b .before .if1 .taken) in
+    let g = ne-eqb _ _ (rw (b .byte-at .ensures) at (c .if2 .left)) in
+    (omega arith, omega arith, sym (block-plain (l .before .before .before .args .text .now) _ (l .loop-test .taken) (rw (f, g) refl)) ∙ l .before .loop .inv .2)
+
+loop-again-2 : tie.Need-loop-again-2 Inv-loop μ-loop
+loop-again-2 c =
+    let l : tie.In-loop Inv-loop μ-loop = c .before .before in
+    let f = ne-eqb _ _ (c .if1 .left) in
+    (omega arith, omega arith, sym (block-plain (l .before .before .before .args .text .now) _ (l .loop-test .taken) (rw f refl)) ∙ l .before .loop .inv .2)
 
 pub block-end-spec : {M : Type 1} → statement M
 block-end-spec =
@@ -37,11 +49,14 @@ block-end-spec =
     μ-loop
     (λ c. (omega arith, omega arith, refl))
     (λ c. omega arith)
-    (λ c κs. search needs)
     (λ c. omega arith)
+    (λ c κs. search needs)
     (λ c. omega arith)
     returns
     (λ c. omega arith)
     (λ c. omega arith)
     loop-again
+    (λ c. omega arith)
+    (λ c. omega arith)
+    loop-again-2
     (λ c. (sym (block-none _ _ (c .loop-test .left)) ∙ c .before .loop .inv .2, tt)))

@@ -20,24 +20,42 @@ abbrev μ-loop : tie.MeasureT-loop
 
 loop-again : tie.Need-loop-again Inv-loop μ-loop
 loop-again c =
-    let d = c .before in
-    let l : tie.In-loop Inv-loop μ-loop = d .before .before .before in
-    let e = rw (d .escapes .ensures, d .before .byte-at .ensures) at (c .if1 .taken) in
-    (omega arith, omega arith, sym (literal-both _ _ _ _ (l .loop-test .taken) e) ∙ l .before .loop .inv .2)
+    let d : tie.After-escapes Inv-loop μ-loop = c .before in
+    let l : tie.In-loop Inv-loop μ-loop = d .before .before in
+    let a = l .before .before .before .args in
+    let n = sym (d .escapes .ensures) ∙ c .if1 .taken in
+    (omega arith, omega arith, sym (literal-both (a .style) (a .q) (a .text .now) _ (l .loop-test .taken) (rw n refl)) ∙ l .before .loop .inv .2)
 
 returns : tie.Need-returns Inv-loop μ-loop
 returns c =
-    let d = c .before .before in
-    let l : tie.In-loop Inv-loop μ-loop = d .before .before .before in
-    let e = rw (d .escapes .ensures, d .before .byte-at .ensures) at (c .before .if1 .left) in
-    (sym (literal-closed _ _ _ _ (l .loop-test .taken) e (eq-eqb _ _ (c .if2 .taken))) ∙ l .before .loop .inv .2, omega arith)
+    let b : tie.After-byte-at Inv-loop μ-loop = c .before in
+    let d : tie.After-escapes Inv-loop μ-loop = b .before .before .before in
+    let l : tie.In-loop Inv-loop μ-loop = d .before .before in
+    let a = l .before .before .before .args in
+    let n = sym (d .escapes .ensures) ∙ b .before .before .if1 .left in
+    let f = eq-eqb _ _ (b .before .if2 .taken) in
+    let g = ne-eqb _ _ (rw (b .byte-at .ensures) at (c .if3 .taken)) in
+    (sym (literal-closed (a .style) (a .q) (a .text .now) _ (l .loop-test .taken) (rw (n, f, g) refl) f) ∙ l .before .loop .inv .2, omega arith)
 
 loop-again-2 : tie.Need-loop-again-2 Inv-loop μ-loop
 loop-again-2 c =
-    let d = c .before .before in
-    let l : tie.In-loop Inv-loop μ-loop = d .before .before .before in
-    let e = rw (d .escapes .ensures, d .before .byte-at .ensures) at (c .before .if1 .left) in
-    (omega arith, omega arith, sym (literal-plain _ _ _ _ (l .loop-test .taken) e (ne-eqb _ _ (c .if2 .left))) ∙ l .before .loop .inv .2)
+    let b : tie.After-byte-at Inv-loop μ-loop = c .before in
+    let d : tie.After-escapes Inv-loop μ-loop = b .before .before .before in
+    let l : tie.In-loop Inv-loop μ-loop = d .before .before in
+    let a = l .before .before .before .args in
+    let n = sym (d .escapes .ensures) ∙ b .before .before .if1 .left in
+    let f = eq-eqb _ _ (b .before .if2 .taken) in
+    let g = eq-eqb _ _ (sym (b .byte-at .ensures) ∙ c .if3 .left) in
+    (omega arith, omega arith, sym (literal-both (a .style) (a .q) (a .text .now) _ (l .loop-test .taken) (rw (n, f, g) refl)) ∙ l .before .loop .inv .2)
+
+loop-again-3 : tie.Need-loop-again-3 Inv-loop μ-loop
+loop-again-3 c =
+    let d : tie.After-escapes Inv-loop μ-loop = c .before .before in
+    let l : tie.In-loop Inv-loop μ-loop = d .before .before in
+    let a = l .before .before .before .args in
+    let n = sym (d .escapes .ensures) ∙ c .before .if1 .left in
+    let f = ne-eqb _ _ (c .if2 .left) in
+    (omega arith, omega arith, sym (literal-plain (a .style) (a .q) (a .text .now) _ (l .loop-test .taken) (rw (n, f) refl) f) ∙ l .before .loop .inv .2)
 
 pub quote-end-spec : {M : Type 1} → statement M
 quote-end-spec =
@@ -47,15 +65,18 @@ quote-end-spec =
     μ-loop
     (λ c. (omega arith, omega arith, refl))
     (λ c. omega arith)
-    (λ c. omega arith)
-    (λ c κs. search needs)
     (λ c κs. search needs)
     (λ c. omega arith)
     (λ c. omega arith)
     loop-again
     (λ c. omega arith)
+    (λ c κs. search needs)
+    (λ c. omega arith)
     returns
     (λ c. omega arith)
     (λ c. omega arith)
     loop-again-2
+    (λ c. omega arith)
+    (λ c. omega arith)
+    loop-again-3
     (λ c. (sym (literal-end _ _ _ _ (c .loop-test .left)) ∙ c .before .loop .inv .2, tt)))
