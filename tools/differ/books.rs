@@ -1,4 +1,4 @@
-//! Books as bytes: small ones, one with real names, random ones.
+//! Books as bytes: small ones, two with real names, random ones.
 
 use crate::random::Random;
 
@@ -10,6 +10,9 @@ pub struct Book {
     /// Rule and name.
     pub clauses: Vec<(u8, String)>,
 }
+
+/// The book of all OpenMP names.
+const OPENMP: &[u8] = include_bytes!("../../books/openmp.drb");
 
 const DIRECTIVES: [&str; 16] = [
     "parallel",
@@ -56,6 +59,22 @@ impl Book {
 
     pub fn real(flags: u8, default: u8) -> Self {
         Self::of(flags, default, &DIRECTIVES, &CLAUSES)
+    }
+
+    pub fn openmp(flags: u8, default: u8) -> Self {
+        let mut rest = &OPENMP[9..];
+        let mut entry = |lead: usize| {
+            let (rule, length) = (rest[0], usize::from(rest[lead]));
+            let (entry, after) = rest.split_at(lead + 1 + length);
+            rest = after;
+            (rule, String::from_utf8_lossy(&entry[lead + 1..]).into_owned())
+        };
+        Self {
+            flags,
+            default,
+            directives: (0..OPENMP[7]).map(|_| entry(0).1).collect(),
+            clauses: (0..OPENMP[8]).map(|_| entry(1)).collect(),
+        }
     }
 
     /// Names that are beginnings of others, or others without their blanks.
