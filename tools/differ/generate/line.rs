@@ -201,9 +201,10 @@ pub fn random(sink: &mut Sink, random: &mut Random) {
     let flags = u8::from(language != "c") + 2 * u8::from(random.percent(30));
     let flags = if random.percent(1) { flags ^ 1 } else { flags };
     let default = random.pick(&[0, 1, 2, 3, 3]);
-    let book = match random.below(4) {
+    let book = match random.below(5) {
         0 => Book::small(flags, default),
         1 => Book::tangled(flags, default, random),
+        2 => Book::openmp(flags, default),
         _ => Book::real(flags, default),
     };
     // Several lines for a book, as making one ready costs more than reading a line.

@@ -83,6 +83,24 @@ pub fn boundaries(sink: &mut Sink) {
         sink.give(ask(2, &book[..book.len() - 1], b"a"));
         sink.give(ask(2, &book[..book.len() - 1], b"a\xff"));
     }
+    for flags in 0..2 {
+        every_name(&Book::openmp(flags, 3), sink);
+    }
+}
+
+/// Each clause name of a book alone, with content and in the other case; then all of them, each with content where its rule lets it have some.
+fn every_name(book: &Book, sink: &mut Sink) {
+    let bytes = book.bytes();
+    let mut all = String::new();
+    for (rule, name) in &book.clauses {
+        for text in [name.clone(), format!("{name}(x)"), name.to_ascii_uppercase()] {
+            sink.give(ask(1, &bytes, text.as_bytes()));
+        }
+        all += name;
+        all += if *rule == 0 { "," } else { "(x) " };
+    }
+    sink.give(ask(512, &bytes, all.as_bytes()));
+    sink.give(ask(512, &bytes, all.to_ascii_uppercase().as_bytes()));
 }
 
 pub fn short(limit: usize, sink: &mut Sink, random: &mut Random) {
@@ -98,9 +116,10 @@ pub fn short(limit: usize, sink: &mut Sink, random: &mut Random) {
 
 pub fn random(sink: &mut Sink, random: &mut Random) {
     let (flags, default) = (random.below(4) as u8, random.below(4) as u8);
-    let book = match random.below(4) {
+    let book = match random.below(5) {
         0 => Book::real(flags, default),
         1 => Book::tangled(flags, default, random),
+        2 => Book::openmp(flags, default),
         _ => Book::small(flags, default),
     };
     let bytes = book.bytes();
