@@ -356,6 +356,10 @@ pub fn is_word(b: u8) -> bool
     if lower {
         return true;
     }
+    // what mostly ends a word: blanks, parentheses, the comma
+    if b < 48 {
+        return false;
+    }
     5 <= class_of(b)
 }
 

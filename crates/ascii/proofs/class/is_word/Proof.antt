@@ -1,8 +1,10 @@
 -- `ascii::class::is_word` meets its contract: question 7 of a byte is answered by its class, and that of a common byte without it.
 -- Assumes nothing.
 use mathlib.Core.Path.{refl, sym}
-use mathlib.Core.Bool.{true}
+use mathlib.Core.Bool.{true, false}
+use lib.Dec.{ltb}
 use borrow.Author.Needs.{needs}
+use borrow.Author.Tests.{lt-ltb}
 use Rattle.ascii.specs.Ascii.{isWord, within}
 use Rattle.ascii.proofs.Table.{agree-where}
 use Rattle.ascii.proofs.Classes.{told}
@@ -12,8 +14,11 @@ use Rattle.ascii.proofs.class.is_word.Tie as tie
 small : tie.Need-returns
 small c = sym (agree-where (within 97 122) isWord (λ _. true) 256 refl (c .before .args .b) (search needs) (c .if1 .taken))
 
-other : tie.Need-returns-2
-other c = rw (c .class-of .ensures) (told 7 (c .before .before .args .b) (search needs))
+below : tie.Need-returns-2
+below c = sym (agree-where (λ b. ltb b 48) isWord (λ _. false) 256 refl (c .before .before .args .b) (search needs) (lt-ltb _ _ (c .if2 .taken)))
+
+other : tie.Need-returns-3
+other c = rw (c .class-of .ensures) (told 7 (c .before .before .before .args .b) (search needs))
 
 pub is-word-spec : {M : Type 1} → statement M
-is-word-spec = tie.close (tie.spec small (λ c κs. search needs) other)
+is-word-spec = tie.close (tie.spec small below (λ c κs. search needs) other)
