@@ -1,8 +1,9 @@
 /* Pelzurda's calls for programs in C and C++. `rt staticlib capi` writes target/staticlib/libcapi.a: link that, and nothing else.
  *
  * A slice is a pointer and a number of elements. A pointer is never null, also where the number is 0; it is aligned for its elements, which
- * stay as they are during the call; and what a call writes overlaps with nothing else that it is given. That is all that a caller owes: every
- * call answers every input, reads and writes nothing but the slices, and keeps nothing.
+ * stay as they are during the call; and what a call writes overlaps with nothing else that it is given. The flags of lent clause records are
+ * true or false before a call too: a zeroed array will do. That is all that a caller owes: every call answers every input, reads and writes
+ * nothing but the slices, and keeps nothing.
  *
  * Every call writes every slot that it is lent: the answer at the front and zeros behind it, after a refusal zeros alone.
  *
@@ -12,6 +13,7 @@
 #ifndef PELZURDA_H
 #define PELZURDA_H
 
+#include <stdbool.h>
 #include <stddef.h>
 #include <stdint.h>
 
@@ -32,8 +34,14 @@ enum {
     PELZURDA_HIGH_BYTE = 2,
     PELZURDA_SHORT_BUFFER = 3,
     PELZURDA_WRONG_BOOK = 4,
+    PELZURDA_WRONG_LANGUAGE = 5,
     PELZURDA_INVALID_LINE = 6,
+    PELZURDA_NO_OPENING = 7,
     PELZURDA_UNCLOSED_COMMENT = 8,
+    PELZURDA_NO_DIRECTIVE = 9,
+    PELZURDA_NO_CLAUSE = 10,
+    PELZURDA_NO_PARENTHESIS = 11,
+    PELZURDA_UNMATCHED = 12,
     PELZURDA_TOO_DEEP = 13,
     PELZURDA_NO_SLOT = 14,
     PELZURDA_EMPTY_ITEM = 15,
@@ -48,6 +56,22 @@ enum { PELZURDA_C = 0, PELZURDA_FORTRAN_FREE = 1, PELZURDA_FORTRAN_FIXED = 2 };
 
 /* a prefix; any other number is omp */
 enum { PELZURDA_OMP = 0, PELZURDA_ACC = 1 };
+
+/* the entry of a clause that has none in the book */
+#define PELZURDA_NO_ENTRY 65535
+
+/* A clause: offsets of the text (of the joined text for a line), its entry in the book, and its commas. 14 bytes, one of them unused, behind
+ * `parenthesized`. A zeroed record is bare with every number 0. */
+struct pelzurda_record {
+    uint16_t name_start;
+    uint16_t name_end;
+    uint16_t entry;
+    bool parenthesized;
+    uint16_t content_start; /* the trimmed content, 0 and 0 if bare */
+    uint16_t content_end;
+    bool preceded; /* a comma stands before the clause */
+    bool trailing; /* a comma stands after the last clause */
+};
 
 /* The length of what trimming leaves of a text of any length, with its start and end in `range`. Refuses nothing. */
 uint64_t pelzurda_trim(const uint8_t *text, size_t text_len, uint64_t range[2]);
@@ -69,6 +93,16 @@ uint64_t pelzurda_copy(const uint8_t *content, size_t content_len, uint8_t *copy
 
 /* 0 for a valid book. */
 uint64_t pelzurda_check_book(const uint8_t *book, size_t book_len);
+
+/* The number of clauses of a text under a book, whose records stand at the front of their slots, with the place of the unread rest in `rest`. */
+uint64_t pelzurda_sequence(const uint8_t *book, size_t book_len, const uint8_t *text, size_t text_len, struct pelzurda_record *records,
+                           size_t records_len, uint64_t rest[1]);
+
+/* The directive's entry in the book, for a whole line. `reading` gets the start and the end of its name, the number of clauses and the place of the
+ * unread rest, all but the number offsets of the joined text; text, map and records stand at the front of their slots. `text` needs as many slots
+ * as the line has bytes, `map` one more. From refusal 7 on a place is an offset of the joined text. */
+uint64_t pelzurda_line(uint32_t language, uint32_t prefix, const uint8_t *book, size_t book_len, const uint8_t *line, size_t line_len, uint8_t *text,
+                       size_t text_len, uint16_t *map, size_t map_len, struct pelzurda_record *records, size_t records_len, uint64_t reading[4]);
 
 #ifdef __cplusplus
 }

@@ -1,6 +1,11 @@
 //! Times Pelzurda's calls beside the published Rust's on the same inputs. Both answer every input first, and must agree on it.
 #![allow(dead_code)]
 
+mod answer;
+mod book;
+mod calls;
+mod request;
+
 mod delimiter;
 mod lexer;
 mod parser;
@@ -8,7 +13,9 @@ mod source;
 
 mod books;
 mod joins;
+mod lines;
 mod ours;
+mod sequences;
 mod splits;
 mod timing;
 
@@ -59,5 +66,7 @@ fn main() {
     joins::rows(&report);
     splits::rows(&report);
     books::rows(&report, &books_folder);
+    sequences::rows(&report, &books_folder);
+    lines::rows(&report, &books_folder);
     println!("\nload after: {}", load());
 }

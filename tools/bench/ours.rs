@@ -16,6 +16,58 @@ unsafe extern "C" {
     fn pelzurda_map_back(map: *const u16, map_len: usize, text_len: usize, start: usize, end: usize, span: *mut [u64; 2]) -> u64;
     fn pelzurda_copy(content: *const u8, content_len: usize, copy: *mut u8, copy_len: usize) -> u64;
     fn pelzurda_check_book(book: *const u8, book_len: usize) -> u64;
+    fn pelzurda_sequence(
+        book: *const u8,
+        book_len: usize,
+        text: *const u8,
+        text_len: usize,
+        records: *mut ClauseRecord,
+        records_len: usize,
+        rest: *mut [u64; 1],
+    ) -> u64;
+    fn pelzurda_line(
+        language: u32,
+        prefix: u32,
+        book: *const u8,
+        book_len: usize,
+        line: *const u8,
+        line_len: usize,
+        text: *mut u8,
+        text_len: usize,
+        map: *mut u16,
+        map_len: usize,
+        records: *mut ClauseRecord,
+        records_len: usize,
+        reading: *mut [u64; 4],
+    ) -> u64;
+}
+
+/// `struct pelzurda_record` of the header.
+#[repr(C)]
+#[derive(Clone, Copy)]
+pub struct ClauseRecord {
+    pub name_start: u16,
+    pub name_end: u16,
+    pub entry: u16,
+    pub parenthesized: bool,
+    pub content_start: u16,
+    pub content_end: u16,
+    pub preceded: bool,
+    pub trailing: bool,
+}
+
+impl ClauseRecord {
+    /// What a slot holds before a call, so that one left alone shows.
+    pub const BEFORE: Self = Self {
+        name_start: 43_690,
+        name_end: 43_690,
+        entry: 43_690,
+        parenthesized: true,
+        content_start: 43_690,
+        content_end: 43_690,
+        preceded: true,
+        trailing: true,
+    };
 }
 
 pub const C: u32 = 0;
@@ -51,4 +103,29 @@ pub fn copy(content: &[u8], copy: &mut [u8]) -> u64 {
 
 pub fn check_book(book: &[u8]) -> u64 {
     unsafe { pelzurda_check_book(book.as_ptr(), book.len()) }
+}
+
+pub fn sequence(book: &[u8], text: &[u8], records: &mut [ClauseRecord], rest: &mut [u64; 1]) -> u64 {
+    unsafe { pelzurda_sequence(book.as_ptr(), book.len(), text.as_ptr(), text.len(), records.as_mut_ptr(), records.len(), rest) }
+}
+
+/// In C, with the prefix omp.
+pub fn line(book: &[u8], line: &[u8], text: &mut [u8], map: &mut [u16], records: &mut [ClauseRecord], reading: &mut [u64; 4]) -> u64 {
+    unsafe {
+        pelzurda_line(
+            C,
+            0,
+            book.as_ptr(),
+            book.len(),
+            line.as_ptr(),
+            line.len(),
+            text.as_mut_ptr(),
+            text.len(),
+            map.as_mut_ptr(),
+            map.len(),
+            records.as_mut_ptr(),
+            records.len(),
+            reading,
+        )
+    }
 }

@@ -12,6 +12,11 @@ use Rattle.lexer.specs.declared.Language.the-variants.{C, FortranFree, FortranF
 use Rattle.lexer.specs.declared.Prefix.{Prefix}
 use Rattle.lexer.specs.declared.Prefix.the-variants.{Omp, Acc}
 use Rattle.source.specs.declared.Span.{Span}
+use Rattle.clause.specs.declared.ClauseRecord.{ClauseRecord}
+use Rattle.clause.specs.declared.SequenceEnd.{SequenceEnd}
+use Rattle.clause.specs.Calls.{SequenceCall}
+use Rattle.reader.specs.declared.Reading.{Reading}
+use Rattle.reader.specs.Calls.{LineCall}
 
 -- the low 32 bits hold a place; one that they do not hold, which is no place in a text, is their largest number
 abbrev pub placeCode : ℕ → ℕ
@@ -39,6 +44,42 @@ spanEnds (refused n place) = 0 ∷ 0 ∷ []
 -- the two lent numbers of trim
 abbrev pub rangeEnds : Range → List ℕ
 rangeEnds r = r .start ∷ r .end ∷ []
+
+-- the clause sequence: its count, and the lent number for the rest
+abbrev pub codedSequence : Answer SequenceEnd → ℕ
+codedSequence (given s) = s .count
+codedSequence (refused n place) = codedRefusal n place
+
+abbrev pub restOf : Answer SequenceEnd → List ℕ
+restOf (given s) = s .rest ∷ []
+restOf (refused n place) = 0 ∷ []
+
+pub record SequenceCoded : Type 0 where
+  pub answer : ℕ
+  pub records : List ClauseRecord
+  pub rest : List ℕ
+
+abbrev pub sequenceCoded : SequenceCall → SequenceCoded
+sequenceCoded c = record { answer = codedSequence (c .answer); records = c .records; rest = restOf (c .answer) }
+
+-- the whole line: the directive's entry, and the lent numbers of its reading
+abbrev pub codedLine : Answer Reading → ℕ
+codedLine (given r) = r .entry
+codedLine (refused n place) = codedRefusal n place
+
+abbrev pub readingNumbers : Answer Reading → List ℕ
+readingNumbers (given r) = r .«name_start» ∷ r .«name_end» ∷ r .count ∷ r .rest ∷ []
+readingNumbers (refused n place) = 0 ∷ 0 ∷ 0 ∷ 0 ∷ []
+
+pub record LineCoded : Type 0 where
+  pub answer : ℕ
+  pub text : List ℕ
+  pub map : List ℕ
+  pub records : List ClauseRecord
+  pub reading : List ℕ
+
+abbrev pub lineCoded : LineCall → LineCoded
+lineCoded c = record { answer = codedLine (c .answer); text = c .text; map = c .map; records = c .records; reading = readingNumbers (c .answer) }
 
 -- a flag as C has it: any number but 0 is true
 abbrev pub isSet : ℕ → Bool

@@ -1,8 +1,11 @@
 // The public calls for programs in C and Rust: numbers and slices only, and an answer that is one number (include/pelzurda.h).
+use clause::ClauseRecord;
+use clause::SequenceAnswer;
 use delimiter::Separator;
 use delimiter::SplitAnswer;
 use lexer::Language;
 use lexer::Prefix;
+use reader::LineAnswer;
 use refusal::Refusal;
 use rulebook::BookAnswer;
 use source::CopyAnswer;
@@ -16,7 +19,9 @@ ghost use Rattle.refusal.specs.Table.{numberOf};
 ghost use Rattle.delimiter.specs.Split.{splitCall};
 ghost use Rattle.source.specs.Calls.{joinCall, spanAnswer, copyCall};
 ghost use Rattle.rulebook.specs.Check.{bookCall};
-ghost use Rattle.capi.specs.Coded.{coded, codedYes, codedRefusal, placeCode, spanEnds, rangeEnds, isSet, languageOf, prefixOf, separatorOf};
+ghost use Rattle.clause.specs.Calls.{sequenceCall, sequenceGives};
+ghost use Rattle.reader.specs.Calls.{lineCall, lineGives};
+ghost use Rattle.capi.specs.Coded.{coded, codedYes, codedRefusal, codedSequence, SequenceCoded, sequenceCoded, codedLine, LineCoded, lineCoded, placeCode, restOf, readingNumbers, spanEnds, rangeEnds, isSet, languageOf, prefixOf, separatorOf};
 
 fn place_code(place: usize) -> u64
     ensures { λ r. ⌜ r ≡ placeCode place ⌝ }
@@ -158,4 +163,80 @@ pub extern "C" fn pelzurda_check_book(book: &[u8]) -> u64
         BookAnswer::Valid => 0,
         BookAnswer::Refused(refused) => code_of(refused),
     }
+}
+
+// The count of a sequence's clauses, and the place of the unread rest in the lent number.
+fn sequence_code(answer: SequenceAnswer, rest: &mut [u64; 1]) -> u64
+    ensures { λ r. ⌜ (r ≡ codedSequence (sequenceGives answer)) × (now (rest .exit) ≡ restOf (sequenceGives answer)) ⌝ }
+{
+    match answer {
+        SequenceAnswer::Read(end) => {
+            *rest = [end.rest as u64];
+            end.count as u64
+        }
+        SequenceAnswer::Refused(refused) => {
+            *rest = [0];
+            code_of(refused)
+        }
+    }
+}
+
+// Clause sequence: the number of clauses, whose records fill the front of the slots.
+#[no_mangle]
+pub extern "C" fn pelzurda_sequence(
+    book: &[u8],
+    text: &[u8],
+    records: &mut [ClauseRecord],
+    rest: &mut [u64; 1],
+) -> u64
+    ensures { λ r. ⌜ record { answer = r; records = now (records .exit); rest = now (rest .exit) }
+        ≡ sequenceCoded (sequenceCall (now (book .entry)) (now (text .entry)) (length (now (records .entry)))) ⌝ }
+{
+    let answer = clause::parse_sequence(book, text, records);
+    sequence_code(answer, rest)
+}
+
+// The directive's entry of a line, and where its name stands, its clauses' number and the place of the unread rest in the lent numbers.
+fn line_code(answer: LineAnswer, reading: &mut [u64; 4]) -> u64
+    ensures { λ r. ⌜ (r ≡ codedLine (lineGives answer)) × (now (reading .exit) ≡ readingNumbers (lineGives answer)) ⌝ }
+{
+    match answer {
+        LineAnswer::Read(read) => {
+            let name_start = read.name_start as u64;
+            let name_end = read.name_end as u64;
+            *reading = [name_start, name_end, read.count as u64, read.rest as u64];
+            read.entry as u64
+        }
+        LineAnswer::Refused(refused) => {
+            *reading = [0, 0, 0, 0];
+            code_of(refused)
+        }
+    }
+}
+
+// The whole line: the directive's entry in the book, with the joined text, its map and the clause records at the front of their slots.
+#[no_mangle]
+pub extern "C" fn pelzurda_line(
+    language: u32,
+    prefix: u32,
+    book: &[u8],
+    line: &[u8],
+    text: &mut [u8],
+    map: &mut [u16],
+    records: &mut [ClauseRecord],
+    reading: &mut [u64; 4],
+) -> u64
+    ensures { λ r. ⌜ record { answer = r; text = now (text .exit); map = now (map .exit); records = now (records .exit); reading = now (reading .exit) }
+        ≡ lineCoded (lineCall (languageOf language) (prefixOf prefix) (now (book .entry)) (now (line .entry)) (length (now (text .entry))) (length (now (map .entry))) (length (now (records .entry)))) ⌝ }
+{
+    let answer = reader::read_line(
+        language_of(language),
+        prefix_of(prefix),
+        book,
+        line,
+        text,
+        map,
+        records,
+    );
+    line_code(answer, reading)
 }

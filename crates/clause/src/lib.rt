@@ -13,6 +13,7 @@ ghost use Rattle.clause.specs.Steps.{sequenceInto};
 
 // What is recorded of a clause: offsets of the joined text, its entry in the book, and its commas.
 // A zeroed record is bare with every number 0.
+#[repr(C)]
 pub struct ClauseRecord {
     pub name_start: u16,
     pub name_end: u16,

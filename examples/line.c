@@ -1,0 +1,45 @@
+/* Reads a directive line of C under a book, and prints its name, its clauses and the places of the line that they come from. */
+#include "pelzurda.h"
+
+#include <stdio.h>
+#include <string.h>
+
+/* the directive `parallel for` and the clauses nowait (bare) and private (with an argument), default Unsupported */
+static const uint8_t book[] = "DRB\0\1\0\3\1\2\14parallel for\0\6nowait\1\7private";
+
+static void print(const char *what, const uint8_t *text, size_t start, size_t end, const uint16_t *map, size_t map_len, size_t length) {
+    uint64_t span[2];
+    if (!pelzurda_is_refused(pelzurda_map_back(map, map_len, length, start, end, span))) {
+        printf("%-9s %-14.*s bytes %2u to %2u of the line\n", what, (int)(end - start), (const char *)text + start, (unsigned)span[0], (unsigned)span[1]);
+    }
+}
+
+int main(void) {
+    const char line[] = "#pragma omp parallel \\\n    for private(a, b), nowait";
+    uint8_t text[64];
+    uint16_t map[65];
+    struct pelzurda_record records[8] = {{0}};
+    uint64_t reading[4];
+
+    if (sizeof(struct pelzurda_record) != 14 || offsetof(struct pelzurda_record, content_start) != 8) {
+        return 1;
+    }
+    uint64_t entry = pelzurda_line(PELZURDA_C, PELZURDA_OMP, book, sizeof book - 1, (const uint8_t *)line, strlen(line), text, 64, map, 65, records, 8, reading);
+    if (pelzurda_is_refused(entry)) {
+        printf("refusal %u at %u\n", (unsigned)pelzurda_number(entry), (unsigned)pelzurda_place(entry));
+        return 1;
+    }
+    const size_t length = strlen(line) - 2; /* the text: the line without its one break */
+    print("name", text, reading[0], reading[1], map, 65, length);
+    for (uint64_t k = 0; k < reading[2]; k++) {
+        print("clause", text, records[k].name_start, records[k].name_end, map, 65, length);
+        if (records[k].parenthesized) {
+            print(" content", text, records[k].content_start, records[k].content_end, map, 65, length);
+        }
+    }
+    /* the clauses alone, from a text of their own */
+    uint64_t rest[1];
+    uint64_t count = pelzurda_sequence(book, sizeof book - 1, (const uint8_t *)"nowait, collapse", 16, records, 8, rest);
+    printf("refusal %u at %u, rest %u\n", (unsigned)pelzurda_number(count), (unsigned)pelzurda_place(count), (unsigned)rest[0]);
+    return reading[2] == 2 && pelzurda_number(count) == PELZURDA_NO_CLAUSE && records[0].name_end == 0 ? 0 : 1;
+}
