@@ -166,7 +166,7 @@ pub fn piece_at(text: &[u8], at: usize, style: CommentStyle) -> Piece
 }
 
 // Whether a byte begins no literal and no comment, in any style: most bytes, so that a walk asks this first.
-fn is_plain(b: u8) -> bool
+pub fn is_plain(b: u8) -> bool
     ensures { λ r. ⌜ r ≡ isPlain b ⌝ }
 {
     !((b == 39) | (b == 34) | (b == 47) | (b == 33))

@@ -17,9 +17,7 @@ fn passed(text: &[u8], at: usize, style: CommentStyle) -> usize
     ensures { λ r. ⌜ scanAt style (now (text .entry)) at .fault ≡ scanAt style (now (text .entry)) r .fault ⌝ }
     ensures { λ r. ⌜ (at ≤ r) × (r ≤ length (now (text .entry))) ⌝ }
 {
-    let b = text[at];
-    let begins = (b == 39) | (b == 34) | (b == 47) | (b == 33);
-    if !begins {
+    if code::is_plain(text[at]) {
         return at + 1;
     }
     match code::piece_at(text, at, style) {

@@ -3,30 +3,25 @@
 use mathlib.Core.Path.{sym, _∙_}
 use native.Mathlib.Omega.{arith}
 use borrow.Author.Needs.{needs}
-use borrow.Author.Tests.{not-true}
-use lib.Dec.{eqb}
-use mathlib.Core.Bool.{_||_}
-use lib.ListN.{getD}
 use Rattle.delimiter.proofs.WalkLaws.{fault-code, fault-hidden, plain-code}
 use Rattle.delimiter.proofs.walk.passed.Statement.{statement}
 use Rattle.delimiter.proofs.walk.passed.Tie as tie
 
 returns : tie.Need-returns
 returns c =
-    let a = c .before .before .before .args in
-    let b = getD (a .text .now) (a .at) 0 in
-    (fault-code _ _ _ (c .before .before .before .pre) (plain-code _ _ _ (c .before .before .before .pre) (not-true (eqb b 39 || eqb b 34 || eqb b 47 || eqb b 33) (c .if1 .taken))), omega arith)
+    let h = c .before .before .before .before .pre in
+    (fault-code _ _ _ h (plain-code _ _ _ h (sym (c .before .is-plain .ensures) ∙ c .if1 .taken)), omega arith)
 
 returns-2 : tie.Need-returns-2
 returns-2 c =
     let p : tie.After-piece-at = c .before .before in
-    let h = p .before .before .before .before .pre in
+    let h = p .before .before .before .before .before .pre in
     (fault-code _ _ _ h (sym (p .piece-at .ensures .0) ∙ c .enum-told .given .1), omega arith)
 
 returns-3 : tie.Need-returns-3
 returns-3 c =
     let p : tie.After-piece-at = c .before .before .before in
-    let h = p .before .before .before .before .pre in
+    let h = p .before .before .before .before .before .pre in
     let f = rw (c .before .n .given .1) at (p .piece-at .ensures .1) in
     (fault-hidden _ _ _ _ h (sym (p .piece-at .ensures .0) ∙ c .before .n .given .1) (f .0), omega arith)
 
@@ -35,6 +30,7 @@ passed-spec =
     tie.close
     (tie.spec
     (λ c. search needs)
+    (λ c κs. search needs)
     (λ c. search needs)
     returns
     (λ c κs. search needs)
