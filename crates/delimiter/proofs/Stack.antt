@@ -1,6 +1,6 @@
 -- Laws of the stack of open brackets in an array, and of bytes that are no brackets.
 -- Assumes nothing.
-use mathlib.Core.Path.{_≡_, refl, sym, ap}
+use mathlib.Core.Path.{_≡_, refl, sym, ap, _∙_}
 use mathlib.Core.List.{List, [], _∷_}
 use mathlib.Core.Bool.{false, _&&_}
 use Prim.Native.Nat.{ℕ, zero, suc, _+_, _-_, _≤_, _<_}
@@ -8,7 +8,7 @@ use native.Mathlib.Omega.{arith}
 use native.Mathlib.Numerals.{add-one}
 use borrow.Author.Tests.{lt-ltb}
 use lib.Dec.{eqb, ltb, eqb·suc-zero}
-use lib.ListN.{length, drop, getD, set}
+use lib.ListN.{length, drop, getD, set, length-drop}
 use lib.Seq.{getD-set-same, getD-set-other}
 use Rattle.ascii.proofs.Flags.{or-none}
 use Rattle.delimiter.specs.declared.OpenBrackets.{OpenBrackets}
@@ -60,11 +60,15 @@ pub shows-open : (o : OpenBrackets) → Shows (o .depth) (getD (o .closing) (o .
 unfolding openOf
 shows-open o = record { size = length-stacked (o .closing) (o .depth); top = λ h. rw (stacked-top (o .closing) (o .depth) h) refl }
 
--- a bracket more and one less, made in place
+-- a bracket more, made in place
 pub open-push : (o : OpenBrackets) (b : ℕ) → o .depth < length (o .closing) → openOf (record { closing = set (o .closing) (o .depth) b; depth = o .depth + 1 }) ≡ b ∷ openOf o
 unfolding openOf
 open-push o b h = stacked-push (o .closing) (o .depth) b h
 
-pub open-pop : (o : OpenBrackets) → 0 < o .depth → openOf (record { closing = o .closing; depth = o .depth - 1 }) ≡ drop 1 (openOf o)
-unfolding openOf
-open-pop o h = rw (stacked-top (o .closing) (o .depth) h)
+-- the depth by the brackets that are left
+pub left-depth : (o r : OpenBrackets) → openOf r ≡ drop 1 (openOf o) → r .depth ≡ o .depth - 1
+left-depth o r e =
+    let n = shows-open o .size in
+    let m = shows-open r .size in
+    let k = ap length e ∙ length-drop 1 (openOf o) in
+    omega arith

@@ -8,9 +8,6 @@ use lib.Dec.{eqb, ltb}
 use Rattle.delimiter.specs.declared.Bracket.{Bracket}
 use Rattle.delimiter.specs.declared.Bracket.the-variants.{Round, Square, Curly, Angle}
 use Rattle.delimiter.specs.declared.OpenBrackets.{OpenBrackets}
-use Rattle.delimiter.specs.declared.Effect.{Effect}
-use Rattle.delimiter.specs.declared.Effect.the-variants.{Held, Wrong, Deep}
-use Rattle.delimiter.specs.declared.Stepped.{Stepped}
 use Rattle.delimiter.specs.declared.Change.{Change}
 use Rattle.delimiter.specs.declared.Change.the-variants as Change
 
@@ -86,15 +83,6 @@ stacked ks (suc d) = getD ks d 0 ∷ stacked ks d
 -- the declared stack as a list, the innermost first
 unfoldable pub openOf : OpenBrackets → List ℕ
 openOf o = stacked (o .closing) (o .depth)
-
--- a declared effect, with the brackets that it leaves
-abbrev pub effectOf : Effect → List ℕ → Brackets
-effectOf Held stack = held stack
-effectOf Wrong stack = wrong
-effectOf Deep stack = deep
-
-abbrev pub bracketsOf : Stepped → Brackets
-bracketsOf r = effectOf (r .effect) (openOf (r .open))
 
 -- a declared change, made to these brackets
 abbrev pub changed : Change → List ℕ → Brackets

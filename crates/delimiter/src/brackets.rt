@@ -1,15 +1,13 @@
 // The kinds of brackets with their bytes, and the stack of open ones by value, which matching and splitting share.
 use crate::Bracket;
 use crate::Change;
-use crate::Effect;
 use crate::OpenBrackets;
-use crate::Stepped;
 ghost use mathlib.Core.Path.{_≡_};
 ghost use mathlib.Core.Bool.{true};
 ghost use mathlib.Core.List.{List, [], _∷_};
-ghost use Prim.Native.Nat.{ℕ, _<_};
+ghost use Prim.Native.Nat.{ℕ, _-_, _<_};
 ghost use lib.ListN.{length, drop};
-ghost use Rattle.delimiter.specs.Bracket.{openingOf, closingOf, isOpening, isClosing, isBracket, kindOf, closer, isEmpty, topIs, push, close, held, taken as takenBy, openOf, bracketsOf, changed, Shows, Suits};
+ghost use Rattle.delimiter.specs.Bracket.{openingOf, closingOf, isOpening, isClosing, isBracket, kindOf, closer, isEmpty, topIs, push, close, taken as takenBy, openOf, changed, Shows, Suits};
 
 impl Bracket {
     pub const ROUND_OPEN: u8 = 40;
@@ -115,21 +113,6 @@ impl OpenBrackets {
         self.depth == 0
     }
 
-    // Whether a byte closes the innermost one.
-    pub fn top_is(self, b: u8) -> bool
-        ensures { λ r. ⌜ r ≡ topIs b (openOf self) ⌝ }
-    {
-        let at = self.depth;
-        if at == 0 {
-            return false;
-        }
-        if at <= 256 {
-            self.closing[at - 1] == b
-        } else {
-            0 == b
-        }
-    }
-
     pub fn push(self, b: u8) -> Self
         requires { ⌜ length (openOf self) < 256 ⌝ }
         ensures { λ r. ⌜ openOf r ≡ b ∷ openOf self ⌝ }
@@ -150,63 +133,6 @@ impl OpenBrackets {
             next.depth = at - 1;
         }
         next
-    }
-
-    // One more, which b closes.
-    pub fn opened(self, b: u8) -> Stepped
-        ensures { λ r. ⌜ bracketsOf r ≡ push b (openOf self) ⌝ }
-    {
-        if self.depth < 256 {
-            let open = self.push(b);
-            return Stepped {
-                effect: Effect::Held,
-                open,
-            };
-        }
-        Stepped {
-            effect: Effect::Deep,
-            open: self,
-        }
-    }
-
-    // The innermost one is closed by b.
-    pub fn closed(self, b: u8) -> Stepped
-        ensures { λ r. ⌜ bracketsOf r ≡ close b (openOf self) ⌝ }
-    {
-        if self.top_is(b) {
-            let open = self.pop();
-            return Stepped {
-                effect: Effect::Held,
-                open,
-            };
-        }
-        Stepped {
-            effect: Effect::Wrong,
-            open: self,
-        }
-    }
-
-    // No change.
-    pub fn kept(self) -> Stepped
-        ensures { λ r. ⌜ bracketsOf r ≡ held (openOf self) ⌝ }
-    {
-        Stepped {
-            effect: Effect::Held,
-            open: self,
-        }
-    }
-
-    // What a byte of code does, by the three pairs.
-    pub fn take(self, b: u8) -> Stepped
-        ensures { λ r. ⌜ bracketsOf r ≡ takenBy (openOf self) b ⌝ }
-    {
-        if Bracket::opens(b) {
-            return self.opened(Bracket::partner(b));
-        }
-        if Bracket::closes(b) {
-            return self.closed(b);
-        }
-        self.kept()
     }
 }
 
@@ -246,4 +172,11 @@ impl Change {
         }
         Change::Keep
     }
+}
+
+// The place of the innermost of so many; 0 where there is none.
+pub fn below(depth: usize) -> usize
+    ensures { λ r. ⌜ r ≡ depth - 1 ⌝ }
+{
+    if depth == 0 { 0 } else { depth - 1 }
 }

@@ -57,26 +57,14 @@ pub struct OpenBrackets {
     pub depth: usize,
 }
 
-// What a byte of code does to the open brackets: it leaves some, it closes none that it could, it is the 257th.
-pub enum Effect {
-    Held,
-    Wrong,
-    Deep,
-}
-
-// The same without the brackets: one more that this byte closes, the innermost less, no other; it closes none that it could, it is the 257th.
+// What a byte of code does to the open brackets: one more, which this byte closes; the innermost less; none; it closes none that it could; it is
+// the 257th.
 pub enum Change {
     Push(u8),
     Pop,
     Keep,
     Wrong,
     Deep,
-}
-
-// An effect, and the brackets that are open where it leaves some.
-pub struct Stepped {
-    pub effect: Effect,
-    pub open: OpenBrackets,
 }
 
 // Where an open parenthesis is closed: at a place, nowhere, or not found before the 257th bracket is open, at its place.

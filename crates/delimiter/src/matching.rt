@@ -1,10 +1,11 @@
 // The parenthesis that matches an open one.
 use crate::Bracket;
+use crate::Change;
 use crate::CommentStyle;
-use crate::Effect;
 use crate::Match;
 use crate::OpenBrackets;
 use crate::Unclosed;
+use crate::brackets;
 use crate::code;
 ghost use mathlib.Core.Path.{_≡_};
 ghost use mathlib.Core.List.{[], _∷_};
@@ -13,7 +14,8 @@ ghost use lib.ListN.{length, drop};
 ghost use Rattle.delimiter.specs.Code.{scanAt};
 ghost use Rattle.delimiter.specs.Matching.{matchFrom, matching, Closes};
 
-// The match of a parenthesis that is open before a place, by the code up to a literal or comment without an end.
+// The match of a parenthesis that is open before a place, by the code up to a literal or comment without an end. A bracket is opened in place:
+// the open ones are too many bytes to copy at each.
 pub fn match_open(text: &[u8], at: usize, style: CommentStyle) -> Match
     requires { ⌜ at ≤ length (now text) ⌝ }
     ensures { λ r. ⌜ r ≡ matchFrom (41 ∷ []) (scanAt style (now (text .entry)) at .codes) ⌝ }
@@ -22,27 +24,26 @@ pub fn match_open(text: &[u8], at: usize, style: CommentStyle) -> Match
     let mut open = OpenBrackets::new().push(Bracket::ROUND_CLOSE);
     let mut i = code::next_code(text, at, style);
     while i < text.len() {
-        let b = text[i];
-        if Bracket::is_one(b) {
-            let step = open.take(b);
-            let effect = step.effect;
-            match effect {
-                Effect::Held => {
-                    open = step.open;
+        let place = i;
+        let depth = open.depth;
+        i = code::next_code(text, place + 1, style);
+        if Bracket::is_one(text[place]) {
+            let inner = open.closing[brackets::below(depth)];
+            match Change::taken(depth, inner, text[place]) {
+                Change::Push(c) => {
+                    open.closing[depth] = c;
+                    open.depth = depth + 1;
                 }
-                Effect::Wrong => {
-                    return Match::Unmatched;
+                Change::Pop => {
+                    open = open.pop();
+                    if open.is_empty() {
+                        return Match::ClosedAt(place);
+                    }
                 }
-                Effect::Deep => {
-                    return Match::DeepAt(i);
-                }
+                Change::Keep => {}
+                Change::Wrong => return Match::Unmatched,
+                Change::Deep => return Match::DeepAt(place),
             }
-            if open.is_empty() {
-                return Match::ClosedAt(i);
-            }
-            i = code::next_code(text, i + 1, style);
-        } else {
-            i = code::next_code(text, i + 1, style);
         }
     }
     Match::Unmatched

@@ -9,6 +9,7 @@ use crate::Separator;
 use crate::SplitAnswer;
 use crate::Turn;
 use crate::Unclosed;
+use crate::brackets;
 use crate::code;
 use ascii::Range;
 use ascii::class;
@@ -192,13 +193,6 @@ fn refused_at(reason: Reason, place: usize) -> Segment
     Segment::Refused(Refusal { reason, place })
 }
 
-// The place of the innermost of so many; 0 where there is none.
-fn below(depth: usize) -> usize
-    ensures { λ r. ⌜ r ≡ depth - 1 ⌝ }
-{
-    if depth == 0 { 0 } else { depth - 1 }
-}
-
 // The last segment, at the end of the text: refused where a bracket is open.
 fn last_end(depth: usize, end: usize) -> Segment
     ensures { λ r. ⌜ ((stack : List ℕ) → length stack ≡ depth → r ≡ lastEnd stack end) ⌝ }
@@ -209,8 +203,8 @@ fn last_end(depth: usize, end: usize) -> Segment
     refused_at(Reason::UnclosedBracket, end)
 }
 
-// The end of the segment that begins at a place, after byte before: a separator, or the end of the text. The open brackets change in place: they
-// are too many bytes to pass by value at each bracket.
+// The end of the segment that begins at a place, after byte before: a separator, or the end of the text. A bracket is opened in
+// place: the open ones are too many bytes to copy at each.
 fn segment_end(text: &[u8], from: usize, before: u8, separator: Separator, angles: bool) -> Segment
     requires { ⌜ from ≤ length (now text) ⌝ }
     ensures { λ r. ⌜ ((room : ℕ) → splitFrom (now (text .entry)) separator angles room (fresh before from) (scanAt Block (now (text .entry)) from .codes) ≡ cut (now (text .entry)) separator angles room from r) ⌝ }
@@ -227,13 +221,13 @@ fn segment_end(text: &[u8], from: usize, before: u8, separator: Separator, angle
         previous = solid(text[at], last);
         i = code::next_code(text, at + 1, CommentStyle::Block);
         if is_mark(angles, text[at]) {
-            let inner = open.closing[below(depth)];
+            let inner = open.closing[brackets::below(depth)];
             match change_at(text, at, angles, last, depth, inner) {
                 Change::Push(c) => {
                     open.closing[depth] = c;
                     open.depth = depth + 1;
                 }
-                Change::Pop => open.depth = depth - 1,
+                Change::Pop => open = open.pop(),
                 Change::Keep => {}
                 Change::Wrong => return refused_at(Reason::WrongClosing, at),
                 Change::Deep => return refused_at(Reason::TooDeep, at),

@@ -10,7 +10,7 @@ use Rattle.delimiter.specs.declared.CommentStyle.the-variants.{Block}
 use Rattle.delimiter.specs.Code.{scanAt, onward}
 use Rattle.delimiter.specs.Bracket.{openOf, changed, held}
 use Rattle.delimiter.specs.Split.{nextSolid, bracketed, fresh, splitFrom}
-use Rattle.delimiter.proofs.Stack.{empty-open, shows-open, open-push, open-pop}
+use Rattle.delimiter.proofs.Stack.{empty-open, shows-open, open-push, left-depth}
 use Rattle.delimiter.proofs.SplitLaws.{last-cuts, split-wrong, split-deep, split-mark, split-goes, split-ends, split-end}
 use Rattle.delimiter.proofs.split.segment_end.Statement.{statement}
 use Rattle.delimiter.proofs.split.segment_end.Tie as tie
@@ -75,11 +75,12 @@ loop-again c =
 
 loop-again-2 : tie.Need-loop-again-2 Inv-loop μ-loop
 loop-again-2 c =
-    let p : tie.After-change-at Inv-loop μ-loop = c .before .before in
+    let p : tie.After-change-at Inv-loop μ-loop = c .before .before .before in
     let n : tie.After-next-code2 Inv-loop μ-loop = p .before .before .before .before .before .before in
     let l : tie.In-loop Inv-loop μ-loop = n .before .before .before in
-    let f = rw (c .enum-told .given .1) at (p .change-at .ensures .1) in
-    (omega arith, omega arith, omega arith, omega arith, l .before .loop .inv .4, λ room. rw (open-pop (l .before .loop .«open») f) (goes-on p _ (rw (c .enum-told .given .1) refl) room))
+    let d = left-depth (l .before .loop .«open») (c .pop .result) (c .pop .ensures) in
+    let k : length (c .pop .result .closing) ≡ 256 = search (needs, c .pop .ok) in
+    (omega arith, omega arith, omega arith, omega (arith, d), k, λ room. rw (c .pop .ensures) (goes-on p _ (rw (c .before .enum-told .given .1) refl) room))
 
 loop-again-3 : tie.Need-loop-again-3 Inv-loop μ-loop
 loop-again-3 c =
@@ -158,7 +159,7 @@ segment-end-spec =
     (λ c. omega arith)
     loop-again
     (λ c. search needs)
-    (λ c. rw (c .enum-told .given .1) at (c .before .before .change-at .ensures .1))
+    (λ c κs. search needs)
     (λ c. omega arith)
     loop-again-2
     (λ c. search needs)
