@@ -29,6 +29,7 @@ use Rattle.delimiter.specs.Matching.{matching}
 use Rattle.lexer.specs.declared.Skipped.{Skipped}
 use Rattle.lexer.specs.declared.Skipped.the-variants.{Past, OpenAt}
 use Rattle.lexer.specs.Trivia.{skip}
+use Rattle.lexer.proofs.Bounds.{skip-again}
 use Rattle.rulebook.specs.declared.ClauseRule.{ClauseRule}
 use Rattle.rulebook.specs.declared.ClauseRule.the-variants.{Parenthesized, Flexible}
 use Rattle.rulebook.specs.declared.ClauseEntry.{ClauseEntry}
@@ -43,7 +44,7 @@ use Rattle.clause.specs.declared.Progress.{Progress}
 use Rattle.clause.specs.declared.Progress.the-variants.{Going, Ended, Refused}
 use Rattle.clause.specs.declared.SequenceState.{SequenceState}
 use Rattle.clause.specs.Clause.{Read, clause, failed, deep, style, bareClause, closing, argument, wordLength, clauseAt}
-use Rattle.clause.specs.Sequence.{openComment, afterComma, separated, isUnsupported}
+use Rattle.clause.specs.Sequence.{then, openComment, afterComma, separated, isUnsupported}
 use Rattle.clause.specs.Steps.{flagBook, reasonOf, Ready, still, stopped, behind, cleanBehind, taken, onward, nextState, answerBy, answerOf, begunAt, startAt, refusedStart, startUnder}
 use Rattle.clause.proofs.Extents.{matching-within, starts-inside, clause-ends}
 
@@ -118,8 +119,8 @@ module _ (f : Bool) (t : List ℕ) (at : ℕ) (k : Skipped) (e : k ≡ skip f t 
   pub comma-is : (p : ℕ) (s : Skipped) → k ≡ Past p → starts 44 (drop p t) ≡ true → s ≡ skip f t (p + 1) → afterComma true s ≡ separated (flagBook f) t at
   comma-is p s g b q = let h = rw add-one at q in rw (← e, g, b) (ap (afterComma true) h)
 
-  pub no-comma-is : (p : ℕ) (s : Skipped) → k ≡ Past p → starts 44 (drop p t) ≡ false → s ≡ skip f t p → afterComma false s ≡ separated (flagBook f) t at
-  no-comma-is p s g b q = rw (← e, g, b) (ap (afterComma false) q)
+  pub no-comma-is : (p : ℕ) → k ≡ Past p → starts 44 (drop p t) ≡ false → then false p ≡ separated (flagBook f) t at
+  no-comma-is p g b = let again = skip-again f t at p (sym e ∙ g) in rw (← e, g, b, again) refl
 
   pub unclosed-is : (p : ℕ) → k ≡ OpenAt p → openComment p ≡ separated (flagBook f) t at
   unclosed-is p g = rw (← e, g) refl

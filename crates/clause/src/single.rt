@@ -12,7 +12,7 @@ use refusal::Refusal;
 use rulebook::ClauseRule;
 use rulebook::Header;
 ghost use mathlib.Core.Path.{_≡_};
-ghost use mathlib.Core.Bool.{cond};
+ghost use mathlib.Core.Bool.{true, cond};
 ghost use mathlib.Core.Option.{none};
 ghost use Prim.Native.Nat.{suc, _≤_, _<_};
 ghost use lib.ListN.{length, drop};
@@ -166,16 +166,16 @@ pub fn read_clause(book: &[u8], header: Header, text: &[u8], at: usize, clean: u
     argument(text, word, rule, header.ignores_case, clean)
 }
 
-fn after_comma(skipped: Skipped, comma: bool) -> Separation
-    ensures { λ r. ⌜ separatedOf r ≡ afterComma comma skipped ⌝ }
+fn after_comma(skipped: Skipped) -> Separation
+    ensures { λ r. ⌜ separatedOf r ≡ afterComma true skipped ⌝ }
 {
     match skipped {
-        Skipped::Past(place) => Separation::Then(comma, place),
+        Skipped::Past(place) => Separation::Then(true, place),
         Skipped::OpenAt(place) => Separation::OpenAt(place),
     }
 }
 
-// What follows a clause that ends at a place: trivia, perhaps a comma, trivia.
+// What follows a clause that ends at a place: trivia, perhaps a comma, trivia. Without a comma the trivia is passed already.
 pub fn separation(text: &[u8], at: usize, fortran: bool) -> Separation
     requires { ⌜ at ≤ length (now text) ⌝ }
     ensures { λ r. ⌜ separatedOf r ≡ separated (flagBook fortran) (now (text .entry)) at ⌝ }
@@ -184,9 +184,9 @@ pub fn separation(text: &[u8], at: usize, fortran: bool) -> Separation
         Skipped::OpenAt(place) => Separation::OpenAt(place),
         Skipped::Past(place) => {
             if ascii::byte_at(text, place) == 44 {
-                return after_comma(lexer::trivia::skip(text, place + 1, fortran), true);
+                return after_comma(lexer::trivia::skip(text, place + 1, fortran));
             }
-            after_comma(lexer::trivia::skip(text, place, fortran), false)
+            Separation::Then(false, place)
         }
     }
 }

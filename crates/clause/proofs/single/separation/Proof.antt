@@ -1,11 +1,10 @@
 -- `separation` meets its contract: the trivia, and whether a comma follows it.
 -- Assumes nothing.
-use mathlib.Core.Path.{sym, subst, _∙_}
+use mathlib.Core.Path.{sym, _∙_}
 use Prim.Native.Nat.{_<_}
 use native.Mathlib.Omega.{arith}
 use lib.ListN.{length}
 use borrow.Author.Needs.{needs}
-use Rattle.lexer.specs.Trivia.{Inside}
 use Rattle.clause.proofs.Reading.{starts-at, starts-not, byte-inside, comma-is, no-comma-is, unclosed-is}
 use Rattle.clause.proofs.single.separation.Statement.{statement}
 use Rattle.clause.proofs.single.separation.Tie as tie
@@ -22,9 +21,8 @@ returns c =
 
 returns-3 : tie.Need-returns-3
 returns-3 c =
-    let a = c .before .before .before .before .before .before .before .before .before .args in
-    c .after-comma2 .ensures
-    ∙ no-comma-is (a .fortran) (a .text .now) (a .at) _ (c .before .before .before .before .before .before .before .skip .ensures .0) _ _ (c .before .before .before .before .before .place2 .given .1) (starts-not 44 (c .before .before .before .before .before .place2 .given .0 .0) (a .text .now) (λ e. c .before .before .if1 .left (c .before .before .before .byte-at .ensures ∙ e))) (c .before .skip3 .ensures .0)
+    let a = c .before .before .before .before .before .before .before .args in
+    no-comma-is (a .fortran) (a .text .now) (a .at) _ (c .before .before .before .before .before .skip .ensures .0) _ (c .before .before .before .place2 .given .1) (starts-not 44 (c .before .before .before .place2 .given .0 .0) (a .text .now) (λ e. c .if1 .left (c .before .byte-at .ensures ∙ e)))
 
 pub separation-spec : {M : Type 1} → statement M
 separation-spec =
@@ -38,7 +36,5 @@ separation-spec =
     (λ c κs. omega (arith, comma-inside c))
     (λ c κs. search needs)
     returns
-    (λ c κs. subst (Inside _ _) (c .before .before .before .place2 .given .1) (c .before .before .before .before .before .skip .ensures .1) .1)
-    (λ c κs. search needs)
     (λ c. let a = c .before .before .before .before .before .args in unclosed-is (a .fortran) (a .text .now) (a .at) _ (c .before .before .before .skip .ensures .0) _ (c .before .place .given .1))
     returns-3)
