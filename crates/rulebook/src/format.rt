@@ -3,10 +3,12 @@ use crate::ClauseRule;
 use crate::Expect;
 use crate::RuleByte;
 use crate::Step;
+use crate::Waiting;
 use ascii::Found;
 use ascii::class::is_word;
 ghost use mathlib.Core.Path.{_≡_};
-ghost use Prim.Native.Nat.{_-_};
+ghost use Prim.Native.Nat.{_-_, _≤_};
+ghost use lib.ListN.{length, drop};
 ghost use Rattle.ascii.specs.Text.{foundAt};
 ghost use Rattle.rulebook.specs.Format.{ruleFor, isKnown, isHeader, isLength, clausesLeft, directivesLeft, whenGood, headerStep, nameStep, wordStep, stepped, endedAt, badFrom};
 
@@ -163,22 +165,101 @@ fn ended(e: Expect, at: usize) -> Found
     }
 }
 
+// Names are most of a book, so their bytes are read in loops of their own, each up to the name's last byte or one that may not stand there.
+// Of a book that is cut in the name nothing is read here.
+
+fn directive_run(book: &[u8], at: usize, n: usize, after_word: bool, d: usize, c: usize) -> Waiting
+    requires { ⌜ at ≤ length (now book) ⌝ }
+    ensures { λ r. ⌜ (at ≤ r .at) × (r .at ≤ length (now (book .entry))) ⌝ }
+    ensures { λ r. ⌜ badFrom (r .expect) (r .at) (drop (r .at) (now (book .entry))) ≡ badFrom (Expect.DirectiveName n «after_word» d c) at (drop at (now (book .entry))) ⌝ }
+{
+    let mut left = n;
+    let mut word = after_word;
+    let mut place = at;
+    if book.len() - at < n {
+        return Waiting {
+            at: place,
+            expect: Expect::DirectiveName(left, word, d, c),
+        };
+    }
+    while 0 < left {
+        let b = book[place];
+        let is = is_word(b);
+        if !(is | (b == 32) & word) {
+            return Waiting {
+                at: place,
+                expect: Expect::DirectiveName(left, word, d, c),
+            };
+        }
+        left -= 1;
+        word = is;
+        place += 1;
+    }
+    Waiting {
+        at: place,
+        expect: Expect::DirectiveName(left, word, d, c),
+    }
+}
+
+fn clause_run(book: &[u8], at: usize, n: usize, c: usize) -> Waiting
+    requires { ⌜ at ≤ length (now book) ⌝ }
+    ensures { λ r. ⌜ (at ≤ r .at) × (r .at ≤ length (now (book .entry))) ⌝ }
+    ensures { λ r. ⌜ badFrom (r .expect) (r .at) (drop (r .at) (now (book .entry))) ≡ badFrom (Expect.ClauseName n c) at (drop at (now (book .entry))) ⌝ }
+{
+    let mut left = n;
+    let mut place = at;
+    if book.len() - at < n {
+        return Waiting {
+            at: place,
+            expect: Expect::ClauseName(left, c),
+        };
+    }
+    while 0 < left {
+        if !is_word(book[place]) {
+            return Waiting {
+                at: place,
+                expect: Expect::ClauseName(left, c),
+            };
+        }
+        left -= 1;
+        place += 1;
+    }
+    Waiting {
+        at: place,
+        expect: Expect::ClauseName(left, c),
+    }
+}
+
+// Goes on to the last byte of a name, if one is being read.
+fn name_run(book: &[u8], at: usize, expect: Expect) -> Waiting
+    requires { ⌜ at ≤ length (now book) ⌝ }
+    ensures { λ r. ⌜ (at ≤ r .at) × (r .at ≤ length (now (book .entry))) ⌝ }
+    ensures { λ r. ⌜ badFrom (r .expect) (r .at) (drop (r .at) (now (book .entry))) ≡ badFrom expect at (drop at (now (book .entry))) ⌝ }
+{
+    match expect {
+        Expect::DirectiveName(n, after_word, d, c) => directive_run(book, at, n, after_word, d, c),
+        Expect::ClauseName(n, c) => clause_run(book, at, n, c),
+        _ => Waiting { at, expect },
+    }
+}
+
 // The first bad byte, or the end of a book that is cut.
 pub fn first_bad(book: &[u8]) -> Found
     ensures { λ r. ⌜ foundAt r ≡ badFrom (Expect.HeaderByte 0) 0 (now (book .entry)) ⌝ }
 {
-    let mut e = Expect::HeaderByte(0);
+    let mut expect = Expect::HeaderByte(0);
     let mut at = 0;
     while at < book.len() {
-        match step(e, book[at]) {
+        match step(expect, book[at]) {
             Step::Next(next) => {
-                e = next;
-                at += 1;
+                let run = name_run(book, at + 1, next);
+                expect = run.expect;
+                at = run.at;
             }
             Step::Bad => {
                 return Found::At(at);
             }
         }
     }
-    ended(e, at)
+    ended(expect, at)
 }

@@ -53,6 +53,12 @@ pub enum Step {
     Bad,
 }
 
+// A place of a book, and what is waited for there.
+pub struct Waiting {
+    pub at: usize,
+    pub expect: Expect,
+}
+
 // Where entries of one kind stand: as many bytes as lead come before an entry's length byte (none in a directive entry, the rule byte
 // in a clause entry), the place of the first entry, and how many there are.
 pub struct Entries {

@@ -12,10 +12,10 @@ use Rattle.rulebook.proofs.format.first_bad.Statement.{statement}
 use Rattle.rulebook.proofs.format.first_bad.Tie as tie
 
 abbrev Inv-loop : tie.InvT-loop
-Inv-loop book e₀ at₀ e at = (at ≤ length book) × (badFrom e at (drop at book) ≡ badFrom (HeaderByte 0) 0 book)
+Inv-loop book expect₀ at₀ expect at = (at ≤ length book) × (badFrom expect at (drop at book) ≡ badFrom (HeaderByte 0) 0 book)
 
 abbrev μ-loop : tie.MeasureT-loop
-μ-loop book e₀ at₀ e at = length book - at
+μ-loop book expect₀ at₀ expect at = length book - at
 
 pub first-bad-spec : {M : Type 1} → statement M
 first-bad-spec =
@@ -28,10 +28,12 @@ first-bad-spec =
     (λ c κs. search needs)
     (λ c. search needs)
     (λ c. omega arith)
-    (λ c. omega arith)
-    (λ c. let l : tie.In-loop Inv-loop μ-loop = c .before .before .before .before .before in
-    let e = sym (c .before .before .before .step .ensures) ∙ c .before .next .given .1 in
-    (omega arith, sym (bad-later (l .before .before .before .args .book .now) (l .before .loop .e) (l .before .loop .at) _ (l .loop-test .taken) e) ∙ l .before .loop .inv .1))
+    (λ c κs. omega arith)
+    (λ c. omega (arith, c .name-run .ensures .0))
+    (λ c. let l : tie.In-loop Inv-loop μ-loop = c .before .before .before .before .before .before in
+    let e = sym (c .before .before .before .before .step .ensures) ∙ c .before .before .next .given .1 in
+    let later = bad-later (l .before .before .before .args .book .now) (l .before .loop .expect) (l .before .loop .at) _ (l .loop-test .taken) e in
+    (c .name-run .ensures .0 .1, c .name-run .ensures .1 ∙ sym later ∙ l .before .loop .inv .1))
     (λ c. search needs)
     (λ c. let l : tie.In-loop Inv-loop μ-loop = c .before .before .before .before in
     let e = sym (c .before .before .step .ensures) ∙ c .enum-told .given .1 in
