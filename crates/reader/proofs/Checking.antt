@@ -20,7 +20,7 @@ use Rattle.source.specs.Calls.{isShort}
 use Rattle.rulebook.specs.Check.{bookFault, bookCall}
 use Rattle.reader.specs.Steps.{callCheck}
 
-module _ (book line : List ℕ) (textSlots mapSlots : ℕ) where
+module _ (book : Answer (Unit {0})) (line : List ℕ) (textSlots mapSlots : ℕ) where
   pub call-text : (why : Refusal) → textVerdict line ≡ Bad why → callCheck book line textSlots mapSlots ≡ refusedBy why
   unfolding callCheck
   call-text why e = admits-bad line _ why e
@@ -29,8 +29,8 @@ module _ (book line : List ℕ) (textSlots mapSlots : ℕ) where
   unfolding callCheck
   call-short e h = admits-fine line _ e ∙ rw h
 
-  pub call-book : textVerdict line ≡ Fine → isShort line textSlots mapSlots ≡ false → callCheck book line textSlots mapSlots ≡ bookCall book
-  unfolding callCheck bookCall
+  pub call-book : textVerdict line ≡ Fine → isShort line textSlots mapSlots ≡ false → callCheck book line textSlots mapSlots ≡ book
+  unfolding callCheck
   call-book e h = admits-fine line _ e ∙ rw h
 
 -- what a check that found nothing says, and the checks behind it
@@ -53,8 +53,8 @@ pub record Fit (book line : List ℕ) (textSlots mapSlots : ℕ) : Type 0 where
   pub map : length line < mapSlots
   pub valid : bookFault book ≡ none
 
-pub call-fine : (book line : List ℕ) (textSlots mapSlots : ℕ) → callCheck book line textSlots mapSlots ≡ given tt → Fit book line textSlots mapSlots
-unfolding callCheck
+pub call-fine : (book line : List ℕ) (textSlots mapSlots : ℕ) → callCheck (bookCall book) line textSlots mapSlots ≡ given tt → Fit book line textSlots mapSlots
+unfolding callCheck bookCall
 call-fine book line textSlots mapSlots e =
     let a = unlong (ltb maxLength (length line)) _ tt e in
     let b = unfault 2 (firstHigh 0 line) _ tt (a .1) in

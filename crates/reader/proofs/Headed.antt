@@ -21,7 +21,7 @@ use Rattle.source.specs.Joining.{joinedText, joinedMap}
 use Rattle.source.specs.Calls.{isShort}
 use Rattle.rulebook.specs.declared.Header.{Header}
 use Rattle.rulebook.specs.Book.{Book, headerOf, bookOf}
-use Rattle.rulebook.specs.Check.{bookFault}
+use Rattle.rulebook.specs.Check.{bookFault, bookCall}
 use Rattle.clause.specs.declared.SequenceAnswer.{SequenceAnswer}
 use Rattle.clause.specs.declared.SequenceAnswer.the-variants as SequenceAnswer
 use Rattle.clause.specs.Sequence.{sequenceAt}
@@ -108,8 +108,8 @@ module _ (l : Language) (p : Prefix) (bk line : List ℕ) (ts ms room : ℕ) whe
   abbrev read : Answer Parsed
   read = parsed (bookOf bk) l p room (joinedText l line)
 
-  line-is : lineAnswer l p bk line ts ms room ≡ andThen (callCheck bk line ts ms) (λ _. andThen (lineCheck l p (bookOf bk .ignoresCase) line) (λ _. read))
-  unfolding lineAnswer callCheck lineCheck
+  line-is : lineAnswer l p bk line ts ms room ≡ andThen (callCheck (bookCall bk) line ts ms) (λ _. andThen (lineCheck l p (bookOf bk .ignoresCase) line) (λ _. read))
+  unfolding lineAnswer callCheck bookCall lineCheck
   line-is =
       let y : Answer Parsed = andThen (lineCheck l p (bookOf bk .ignoresCase) line) (λ _. read) in
       let e : cond (suits l (bookOf bk)) (unlessFault 6 (fault l p line) read) (refused 5 0) ≡ y
@@ -124,14 +124,14 @@ module _ (l : Language) (p : Prefix) (bk line : List ℕ) (ts ms room : ℕ) whe
   unfolding bookOf
   by-header h e = ap (λ (k : Header). lineCheck l p (k .«ignores_case») line) e
 
-  pub line-call : (why : Refusal) → callCheck bk line ts ms ≡ refusedBy why → lineAnswer l p bk line ts ms room ≡ refusedBy why
+  pub line-call : (why : Refusal) → callCheck (bookCall bk) line ts ms ≡ refusedBy why → lineAnswer l p bk line ts ms room ≡ refusedBy why
   line-call why e = line-is ∙ rw e
 
-  pub line-physical : (why : Refusal) → callCheck bk line ts ms ≡ given tt → lineCheck l p (bookOf bk .ignoresCase) line ≡ refusedBy why
+  pub line-physical : (why : Refusal) → callCheck (bookCall bk) line ts ms ≡ given tt → lineCheck l p (bookOf bk .ignoresCase) line ≡ refusedBy why
       → lineAnswer l p bk line ts ms room ≡ refusedBy why
   line-physical why e d = line-is ∙ rw (e, d)
 
-  pub line-read : callCheck bk line ts ms ≡ given tt → lineCheck l p (bookOf bk .ignoresCase) line ≡ given tt → lineAnswer l p bk line ts ms room ≡ read
+  pub line-read : callCheck (bookCall bk) line ts ms ≡ given tt → lineCheck l p (bookOf bk .ignoresCase) line ≡ given tt → lineAnswer l p bk line ts ms room ≡ read
   line-read e d = line-is ∙ rw (e, d)
 
 take-less : {A : Type 0} (k n : ℕ) (xs : List A) → k ≤ n → take k (take n xs) ≡ take k xs

@@ -9,3 +9,4 @@ pub mod Settled
 pub mod Sharing
 pub mod Arrays
 pub mod Alike
+pub mod Counting

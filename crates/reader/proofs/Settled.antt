@@ -27,7 +27,7 @@ use Rattle.reader.specs.Calls.{readingOf, lineGives}
 use Rattle.reader.specs.Steps.{behind, answered, HeadGives, lineWithin}
 
 -- the answer behind a name
-answer-given : (name : DirectiveName) (a : SequenceAnswer) (x : Answer Sequence) → sequenceGives a ≡ andThen x (λ s. given (counted s))
+pub answer-given : (name : DirectiveName) (a : SequenceAnswer) (x : Answer Sequence) → sequenceGives a ≡ andThen x (λ s. given (counted s))
     → lineGives (answered name a) ≡ andThen (behind name x) (λ p. given (readingOf p))
 answer-given name (SequenceAnswer.Read e) (given s) h =
     let q : e ≡ counted s = cc in

@@ -1,6 +1,6 @@
 -- The whole line by steps: the checks before it is joined, what stands once the name is read, and what is left once the clauses are.
 use Prim.Native.Nat.{ℕ, _+_, _≤_}
-use mathlib.Core.Bool.{Bool, cond, not}
+use mathlib.Core.Bool.{Bool, true, false, cond, not}
 use mathlib.Core.Path.{_≡_}
 use mathlib.Core.List.{List}
 use lib.ListN.{length, take}
@@ -15,7 +15,8 @@ use Rattle.lexer.specs.declared.Prefix.{Prefix}
 use Rattle.source.specs.Validation.{fault}
 use Rattle.source.specs.Joining.{joinedText, joinedMap}
 use Rattle.source.specs.Calls.{isShort}
-use Rattle.rulebook.specs.Check.{bookFault}
+use Rattle.clause.specs.declared.Progress.{Progress}
+use Rattle.clause.specs.declared.Progress.the-variants as Progress
 use Rattle.clause.specs.declared.SequenceAnswer.{SequenceAnswer}
 use Rattle.clause.specs.declared.SequenceAnswer.the-variants as SequenceAnswer
 use Rattle.clause.specs.Clause.{zeroRecord}
@@ -32,11 +33,10 @@ use Rattle.reader.specs.Calls.{readingOf, LineCall}
 abbrev pub checkOf : Verdict → Answer (Unit {0})
 checkOf v = orRefused v (given tt)
 
--- rows 1 to 4
-unfoldable pub callCheck : List ℕ → List ℕ → ℕ → ℕ → Answer (Unit {0})
-unfolding bookFault firstHigh
-callCheck book line textSlots mapSlots =
-    admitted line (cond (isShort line textSlots mapSlots) (refused 3 0) (unlessFault 4 (bookFault book) (given tt)))
+-- rows 1 to 3, then 4 as the book check gives it
+unfoldable pub callCheck : Answer (Unit {0}) → List ℕ → ℕ → ℕ → Answer (Unit {0})
+unfolding firstHigh
+callCheck book line textSlots mapSlots = admitted line (cond (isShort line textSlots mapSlots) (refused 3 0) book)
 
 -- "Language C needs bit 0 clear, the Fortrans need it set."
 abbrev pub suited : Language → Bool → Bool
@@ -84,6 +84,12 @@ abbrev pub answered : DirectiveName → SequenceAnswer → LineAnswer
 answered n (SequenceAnswer.Read s) =
     LineAnswer.Read (record { entry = n .entry; «name_start» = n .start; «name_end» = n .end; count = s .count; rest = s .rest })
 answered n (SequenceAnswer.Refused r) = LineAnswer.Refused r
+
+-- more is to be read
+abbrev pub isGoing : Progress → Bool
+isGoing Progress.Going = true
+isGoing Progress.Ended = false
+isGoing (Progress.Refused r) = false
 
 -- the whole line into so many of the record slots that are lent
 unfoldable pub lineWithin : Language → Prefix → List ℕ → List ℕ → ℕ → ℕ → ℕ → ℕ → LineCall

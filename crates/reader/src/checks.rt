@@ -8,11 +8,12 @@ use refusal::Verdict;
 use rulebook::BookAnswer;
 use source::validation;
 ghost use mathlib.Core.Path.{_≡_};
+ghost use Rattle.rulebook.specs.Check.{bookGives};
 ghost use Rattle.reader.specs.Steps.{checkOf, callCheck, suited, lineCheck};
 
-// The line's length and bytes, the buffers, the book.
-pub fn check_call(book: &[u8], line: &[u8], text_slots: usize, map_slots: usize) -> Verdict
-    ensures { λ r. ⌜ checkOf r ≡ callCheck (now (book .entry)) (now (line .entry)) «text_slots» «map_slots» ⌝ }
+// The line's length and bytes, the buffers, and the verdict on the book.
+pub fn check_call(book: BookAnswer, line: &[u8], text_slots: usize, map_slots: usize) -> Verdict
+    ensures { λ r. ⌜ checkOf r ≡ callCheck (bookGives book) (now (line .entry)) «text_slots» «map_slots» ⌝ }
 {
     let admitted = refusal::check_text(line);
     if let Verdict::Bad(why) = admitted {
@@ -24,7 +25,7 @@ pub fn check_call(book: &[u8], line: &[u8], text_slots: usize, map_slots: usize)
             place: 0,
         });
     }
-    match rulebook::check_book(book) {
+    match book {
         BookAnswer::Valid => Verdict::Fine,
         BookAnswer::Refused(why) => Verdict::Bad(why),
     }

@@ -14,6 +14,7 @@ use lexer::Prefix;
 use lexer::Step;
 use refusal::Refusal;
 use refusal::Verdict;
+use rulebook::BookAnswer;
 use rulebook::Header;
 use rulebook::lookup;
 use source::joining;
@@ -24,7 +25,7 @@ ghost use Prim.Native.Nat.{_-_, _≤_};
 ghost use lib.ListN.{length, take, replicate};
 ghost use Rattle.refusal.specs.Answer.{andThen, maxLength};
 ghost use Rattle.rulebook.specs.Book.{bookOf, headerOf};
-ghost use Rattle.rulebook.specs.Check.{bookFault, HasForm};
+ghost use Rattle.rulebook.specs.Check.{bookFault, bookCall, bookGives, HasForm};
 ghost use Rattle.clause.specs.Steps.{keptOf};
 ghost use Rattle.directive.specs.Name.{nameAt, nameGives};
 ghost use Rattle.reader.specs.Line.{opening as openingOf, parsed};
@@ -89,7 +90,34 @@ fn head_of(
     }
 }
 
-// The head of a line: refusals 1 to 9, and the joined text with its map at the front of their slots.
+// The head of a line under a verdict on its book: refusals 1 to 9, and the joined text with its map at the front of their slots.
+pub fn head_under(
+    language: Language,
+    prefix: Prefix,
+    book: &[u8],
+    verdict: BookAnswer,
+    line: &[u8],
+    text: &mut [u8],
+    map: &mut [u16],
+    slots: usize,
+) -> Head
+    requires { ⌜ bookGives verdict ≡ bookCall (now book) ⌝ }
+    ensures { λ r. ⌜ HeadGives language prefix (now (book .entry)) (now (line .entry)) slots (now (text .exit)) (now (map .exit)) r ⌝ }
+{
+    let call = checks::check_call(verdict, line, text.len(), map.len());
+    if let Verdict::Bad(why) = call {
+        return refused_head(why);
+    }
+    let header = lookup::read_header(book);
+    let physical = checks::check_line(language, prefix, header.ignores_case, line);
+    if let Verdict::Bad(why) = physical {
+        return refused_head(why);
+    }
+    let n = joining::join_into(language, line, text, map);
+    head_of(language, prefix, book, header, &text[..n], slots)
+}
+
+// The same with the book checked here.
 pub fn read_head(
     language: Language,
     prefix: Prefix,
@@ -101,17 +129,8 @@ pub fn read_head(
 ) -> Head
     ensures { λ r. ⌜ HeadGives language prefix (now (book .entry)) (now (line .entry)) slots (now (text .exit)) (now (map .exit)) r ⌝ }
 {
-    let call = checks::check_call(book, line, text.len(), map.len());
-    if let Verdict::Bad(why) = call {
-        return refused_head(why);
-    }
-    let header = lookup::read_header(book);
-    let physical = checks::check_line(language, prefix, header.ignores_case, line);
-    if let Verdict::Bad(why) = physical {
-        return refused_head(why);
-    }
-    let n = joining::join_into(language, line, text, map);
-    head_of(language, prefix, book, header, &text[..n], slots)
+    let verdict = rulebook::check_book(book);
+    head_under(language, prefix, book, verdict, line, text, map, slots)
 }
 
 // The joined text that stands.
@@ -131,7 +150,7 @@ pub fn start_of(head: Head) -> SequenceState
 }
 
 // The answer of a line, once its clauses are read.
-fn answer_of(name: DirectiveName, clauses: SequenceAnswer) -> LineAnswer
+pub fn answer_of(name: DirectiveName, clauses: SequenceAnswer) -> LineAnswer
     ensures { λ r. ⌜ r ≡ answered name clauses ⌝ }
 {
     match clauses {

@@ -2,6 +2,7 @@
 pub mod checks;
 pub mod heading;
 pub mod line;
+pub mod many;
 pub mod opening;
 
 use clause::ClauseRecord;

@@ -17,17 +17,17 @@ returns-2 c =
 
 returns-3 : tie.Need-returns-3
 returns-3 c =
-    let b : tie.After-check-book = c .before .before in
-    let t : tie.After-enum-told = b .before .before .before in
-    ap bookGives (sym (c .enum-told2 .given .1)) ∙ b .check-book .ensures
-    ∙ sym (call-book _ _ _ _ (sym (t .before .before .check-text .ensures) ∙ t .enum-told .given .1) (sym (b .before .before .is-short .ensures) ∙ b .before .if1 .left))
+    let b : tie.After-is-short = c .before .before .before in
+    let t : tie.After-enum-told = b .before in
+    ap bookGives (sym (c .enum-told2 .given .1))
+    ∙ sym (call-book _ _ _ _ (sym (t .before .before .check-text .ensures) ∙ t .enum-told .given .1) (sym (b .is-short .ensures) ∙ c .before .before .if1 .left))
 
 returns-4 : tie.Need-returns-4
 returns-4 c =
-    let b : tie.After-check-book = c .before .before .before in
-    let t : tie.After-enum-told = b .before .before .before in
-    ap bookGives (sym (c .before .why .given .1)) ∙ b .check-book .ensures
-    ∙ sym (call-book _ _ _ _ (sym (t .before .before .check-text .ensures) ∙ t .enum-told .given .1) (sym (b .before .before .is-short .ensures) ∙ b .before .if1 .left))
+    let b : tie.After-is-short = c .before .before .before .before in
+    let t : tie.After-enum-told = b .before in
+    ap bookGives (sym (c .before .book .given .1))
+    ∙ sym (call-book _ _ _ _ (sym (t .before .before .check-text .ensures) ∙ t .enum-told .given .1) (sym (b .is-short .ensures) ∙ c .before .before .before .if1 .left))
 
 pub check-call-spec : {M : Type 1} → statement M
 check-call-spec =
@@ -39,7 +39,6 @@ check-call-spec =
     (λ c. search needs)
     (λ c κs. search needs)
     returns-2
-    (λ c κs. search needs)
     (λ c. search needs)
     (λ c. search needs)
     returns-3
