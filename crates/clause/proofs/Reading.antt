@@ -189,9 +189,9 @@ pub answered : (s n : SequenceState) (p : Progress) → s ≡ n → s .progress 
 answered s n p e g = ap (answerBy s) (sym g) ∙ ap answerOf e
 
 -- the start
-pub start-is : (bk t : List ℕ) (left at : ℕ) (h : Header) (k s : Skipped) → h ≡ headerOf bk → k ≡ skip (h .«ignores_case») t at → k ≡ s → begunAt t h left s ≡ startAt bk t left at
+pub start-is : (bk t : List ℕ) (left at : ℕ) (h : Header) → h ≡ headerOf bk → begunAt t h left (skip (h .«ignores_case») t at) ≡ startAt bk t left at
 unfolding startAt
-start-is bk t left at h k s e g q = ap (begunAt t h left) (sym q ∙ g) ∙ ap (λ (z : Header). begunAt t z left (skip (z .«ignores_case») t at)) e
+start-is bk t left at h e = ap (λ (z : Header). begunAt t z left (skip (z .«ignores_case») t at)) e
 
 no-fault : (o : Option ℕ) → _≡_ {A = Answer (Unit {0})} (given tt) (unlessFault 4 o (given tt)) → o ≡ none
 no-fault none e = refl

@@ -24,10 +24,11 @@ ghost use Prim.Native.Nat.{_≤_, _<_, min};
 ghost use lib.ListN.{length};
 ghost use lib.Dec.{eqb};
 ghost use Rattle.refusal.specs.Answer.{maxLength};
+ghost use Rattle.lexer.specs.Trivia.{skip};
 ghost use Rattle.rulebook.specs.Book.{bookOf};
 ghost use Rattle.rulebook.specs.Check.{bookFault};
 ghost use Rattle.clause.specs.Sequence.{separated, isUnsupported};
-ghost use Rattle.clause.specs.Steps.{flagBook, Proper, Ready, noHeader, begun as begunOf, refusedStart, startAt, startOf, still as stillOf, stopped as stoppedOf, gone as goneOf, behind as behindOf, cleanBehind, onward as onwardOf, nextState, answerOf, keptOf};
+ghost use Rattle.clause.specs.Steps.{flagBook, Proper, Ready, noHeader, begun as begunOf, refusedStart, begunAt, startOf, still as stillOf, stopped as stoppedOf, gone as goneOf, behind as behindOf, cleanBehind, onward as onwardOf, nextState, answerOf, keptOf};
 
 // The header where a book has none.
 fn no_header() -> Header
@@ -69,12 +70,11 @@ pub fn refused_start(slots: usize, refusal: Refusal) -> SequenceState
     begun(no_header(), Progress::Refused(refusal), 0, slots, 0)
 }
 
-// The start at a place of a text, under a book that is valid, with so many slots.
-pub fn start_at(book: &[u8], text: &[u8], at: usize, slots: usize) -> SequenceState
-    requires { ⌜ (bookFault (now book) ≡ none) × ((length (now text) ≤ maxLength) × (at ≤ length (now text))) ⌝ }
-    ensures { λ r. ⌜ r ≡ startAt (now (book .entry)) (now (text .entry)) slots at ⌝ }
+// The start at a place of a text, under a book's header, with so many slots.
+pub fn start_at(header: Header, text: &[u8], at: usize, slots: usize) -> SequenceState
+    requires { ⌜ at ≤ length (now text) ⌝ }
+    ensures { λ r. ⌜ r ≡ begunAt (now (text .entry)) header slots (skip (header .«ignores_case») (now (text .entry)) at) ⌝ }
 {
-    let header = rulebook::lookup::read_header(book);
     match lexer::trivia::skip(text, at, header.ignores_case) {
         Skipped::Past(place) => begun(header, Progress::Going, place, slots, text.len()),
         Skipped::OpenAt(place) => begun(
@@ -98,7 +98,7 @@ pub fn start(book: &[u8], text: &[u8], slots: usize) -> SequenceState
         Verdict::Bad(refusal) => refused_start(slots, refusal),
         Verdict::Fine => match rulebook::check_book(book) {
             BookAnswer::Refused(refusal) => refused_start(slots, refusal),
-            BookAnswer::Valid => start_at(book, text, 0, slots),
+            BookAnswer::Valid => start_at(rulebook::lookup::read_header(book), text, 0, slots),
         },
     }
 }

@@ -85,7 +85,7 @@ fn head_of(
             name,
             length: text.len(),
             mapped: text.len() + 1,
-            start: steps::start_at(book, text, name.end, slots),
+            start: steps::start_at(header, text, name.end, slots),
         },
     }
 }

@@ -1,19 +1,17 @@
 -- `start` meets its contract: the two checks in their order, and then the start at the text's first place.
 -- Assumes nothing.
 use mathlib.Core.Path.{sym, ap, _∙_}
-use native.Mathlib.Omega.{arith}
 use borrow.Author.Needs.{needs}
-use Rattle.refusal.proofs.Admission.{admits-length}
 use Rattle.rulebook.specs.Check.{bookGives}
+use Rattle.rulebook.proofs.Forms.{valid-form}
 use Rattle.clause.specs.Steps.{startOf}
-use Rattle.clause.proofs.Reading.{valid-book, wrong-book}
+use Rattle.clause.proofs.Reading.{start-is, valid-book, wrong-book}
 use Rattle.clause.proofs.steps.start.Statement.{statement}
 use Rattle.clause.proofs.steps.start.Tie as tie
 
--- both checks are passed
-passed : tie.Need-start-at-requires
-passed c κs =
-    (valid-book _ (sym (ap bookGives (c .enum-told2 .given .1)) ∙ c .before .before .check-book .ensures), (admits-length _ (sym (c .before .before .before .before .before .check-text .ensures) ∙ c .before .before .before .enum-told .given .1), omega arith))
+-- the book has its form
+formed : tie.Need-read-header-requires
+formed c κs = valid-form _ (valid-book _ (sym (ap bookGives (c .enum-told2 .given .1)) ∙ c .before .before .check-book .ensures))
 
 returns : tie.Need-returns
 unfolding startOf
@@ -28,8 +26,11 @@ returns-2 c =
 returns-3 : tie.Need-returns-3
 unfolding startOf
 returns-3 c =
-    let v = valid-book _ (sym (ap bookGives (c .before .enum-told2 .given .1)) ∙ c .before .before .before .check-book .ensures) in
-    c .start-at .ensures ∙ rw (sym (c .before .before .before .before .before .before .check-text .ensures) ∙ c .before .before .before .before .enum-told .given .1, v)
+    let m = c .before .before in
+    let v = valid-book _ (sym (ap bookGives (m .enum-told2 .given .1)) ∙ m .before .before .check-book .ensures) in
+    let a = m .before .before .before .before .before .before .before .before .args in
+    c .start-at .ensures ∙ start-is (a .book .now) (a .text .now) (a .slots) 0 _ (c .before .read-header .ensures)
+    ∙ rw (sym (m .before .before .before .before .before .check-text .ensures) ∙ m .before .before .before .enum-told .given .1, v)
 
 pub start-spec : {M : Type 1} → statement M
 start-spec =
@@ -43,7 +44,8 @@ start-spec =
     (λ c. search needs)
     (λ c κs. search needs)
     (λ c. search needs)
-    passed
+    formed
+    (λ c κs. search needs)
     returns
     returns-2
     returns-3)

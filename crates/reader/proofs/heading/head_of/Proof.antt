@@ -4,6 +4,7 @@ use mathlib.Core.Path.{ap, sym, _∙_}
 use borrow.Author.Needs.{needs}
 use Rattle.rulebook.specs.Book.{bookOf}
 use Rattle.rulebook.proofs.Forms.{valid-form}
+use Rattle.clause.proofs.Reading.{start-is}
 use Rattle.directive.specs.Name.{nameGives}
 use Rattle.reader.proofs.Headed.{name-ends, heads-refused, heads-found}
 use Rattle.reader.proofs.heading.head_of.Statement.{statement}
@@ -17,7 +18,8 @@ returns c =
 returns-2 : tie.Need-returns-2
 returns-2 c =
     let k : tie.After-known-told2 = c .before in
-    rw (c .start-at .ensures) (heads-found _ _ _ _ _ _ (sym (k .before .before .before .read-name .ensures) ∙ ap nameGives (k .before .name .given .1)) (search needs) (search needs))
+    let a = k .before .before .before .before .before .before .args in
+    rw (c .start-at .ensures ∙ start-is (a .book .now) (a .text .now) (a .slots) _ _ (search needs)) (heads-found _ _ _ _ _ _ (sym (k .before .before .before .read-name .ensures) ∙ ap nameGives (k .before .name .given .1)) (search needs) (search needs))
 
 pub head-of-spec : {M : Type 1} → statement M
 head-of-spec =
@@ -29,6 +31,6 @@ head-of-spec =
     (λ c. search needs)
     (λ c. search needs)
     (λ c κs. let a = c .before .before .before .before .before .before .args in
-    (search needs, (search needs, name-ends (bookOf (a .book .now)) (a .language) (a .prefix) (a .slots) (a .text .now) _ (sym (c .before .before .before .read-name .ensures) ∙ ap nameGives (c .before .name .given .1)))))
+    name-ends (bookOf (a .book .now)) (a .language) (a .prefix) (a .slots) (a .text .now) _ (sym (c .before .before .before .read-name .ensures) ∙ ap nameGives (c .before .name .given .1)))
     returns
     returns-2)
