@@ -1,4 +1,6 @@
 // The public calls for programs in C and Rust: numbers and slices only, and an answer that is one number (include/pelzurda.h).
+mod lines;
+
 use clause::ClauseRecord;
 use clause::SequenceAnswer;
 use delimiter::Separator;
@@ -21,6 +23,7 @@ ghost use Rattle.source.specs.Calls.{joinCall, spanAnswer, copyCall};
 ghost use Rattle.rulebook.specs.Check.{bookCall};
 ghost use Rattle.clause.specs.Calls.{sequenceCall, sequenceGives};
 ghost use Rattle.reader.specs.Calls.{lineCall, lineGives};
+ghost use Rattle.capi.specs.Lines.{LinesCall, linesCall};
 ghost use Rattle.capi.specs.Coded.{coded, codedYes, codedRefusal, codedSequence, SequenceCoded, sequenceCoded, codedLine, LineCoded, lineCoded, placeCode, restOf, readingNumbers, spanEnds, rangeEnds, isSet, languageOf, prefixOf, separatorOf};
 
 fn place_code(place: usize) -> u64
@@ -239,4 +242,41 @@ pub extern "C" fn pelzurda_line(
         records,
     );
     line_code(answer, reading)
+}
+
+// Many lines under one check of the book: the number of lines that were answered, each in its slot. Line i ends at its end number, and starts where the
+// one before has ended. Text and map are working space, zeroed at the end; so many record slots a line may take.
+#[no_mangle]
+pub extern "C" fn pelzurda_lines(
+    language: u32,
+    prefix: u32,
+    book: &[u8],
+    lines: &[u8],
+    ends: &[usize],
+    text: &mut [u8],
+    map: &mut [u16],
+    slots: usize,
+    answers: &mut [u64],
+) -> u64
+    ensures { λ r. ⌜ record { count = r; text = now (text .exit); map = now (map .exit); answers = now (answers .exit) }
+        ≡ linesCall (languageOf language) (prefixOf prefix) (now (book .entry)) (now (lines .entry)) (now (ends .entry)) (length (now (text .entry))) (length (now (map .entry))) slots (length (now (answers .entry))) ⌝ }
+{
+    let verdict = rulebook::check_book(book);
+    let spoken = language_of(language);
+    let sought = prefix_of(prefix);
+    lines::answer_lines(
+        spoken,
+        sought,
+        book,
+        verdict,
+        lines,
+        ends,
+        text,
+        map,
+        slots,
+        answers,
+    );
+    refusal::clear_bytes(text, 0);
+    refusal::clear_words(map, 0);
+    lines::lesser(ends.len(), answers.len()) as u64
 }

@@ -1,0 +1,76 @@
+// The answers of many lines under one verdict on their book.
+use crate::code_of;
+use lexer::Language;
+use lexer::Prefix;
+use reader::LineAnswer;
+use reader::many;
+use rulebook::BookAnswer;
+ghost use mathlib.Core.Path.{_≡_};
+ghost use Prim.Native.Nat.{_≤_, min};
+ghost use lib.ListN.{length};
+ghost use Rattle.rulebook.specs.Check.{bookCall, bookGives};
+ghost use Rattle.reader.specs.Calls.{lineGives};
+ghost use Rattle.capi.specs.Coded.{codedLine};
+ghost use Rattle.capi.specs.Lines.{endOf, answersFrom};
+
+// A line's answer as one number.
+fn line_number(answer: LineAnswer) -> u64
+    ensures { λ r. ⌜ r ≡ codedLine (lineGives answer) ⌝ }
+{
+    match answer {
+        LineAnswer::Read(read) => read.entry as u64,
+        LineAnswer::Refused(refused) => code_of(refused),
+    }
+}
+
+// Where a line ends that starts at a place: no earlier, and not behind the bytes.
+fn line_end(size: usize, at: usize, end: usize) -> usize
+    requires { ⌜ at ≤ size ⌝ }
+    ensures { λ r. ⌜ (r ≡ endOf size at end) × (at ≤ r) × (r ≤ size) ⌝ }
+{
+    if end < at {
+        return at;
+    }
+    if size < end { size } else { end }
+}
+
+// The answer of each line in its slot; a slot with no line is zeroed. What text and map hold afterwards is not said.
+pub fn answer_lines(
+    language: Language,
+    prefix: Prefix,
+    book: &[u8],
+    verdict: BookAnswer,
+    lines: &[u8],
+    ends: &[usize],
+    text: &mut [u8],
+    map: &mut [u16],
+    slots: usize,
+    answers: &mut [u64],
+)
+    requires { ⌜ bookGives verdict ≡ bookCall (now book) ⌝ }
+    ensures { λ _. ⌜ now (answers .exit)
+        ≡ answersFrom language prefix (now (book .entry)) (now (lines .entry)) (length (now (text .entry))) (length (now (map .entry))) slots (length (now (answers .entry))) 0 (now (ends .entry)) ⌝ }
+{
+    let mut at = 0;
+    let mut i = 0;
+    while i < answers.len() {
+        if i < ends.len() {
+            let stop = line_end(lines.len(), at, ends[i]);
+            let line = &lines[at..stop];
+            let answer = many::line_answer(language, prefix, book, verdict, line, text, map, slots);
+            answers[i] = line_number(answer);
+            at = stop;
+            i += 1;
+        } else {
+            answers[i] = 0;
+            i += 1;
+        }
+    }
+}
+
+// The lesser of two numbers.
+pub fn lesser(a: usize, b: usize) -> usize
+    ensures { λ r. ⌜ r ≡ min a b ⌝ }
+{
+    if a < b { a } else { b }
+}
