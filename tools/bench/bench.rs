@@ -37,14 +37,19 @@ impl Report {
 
     /// The ratio of the medians, the ratio of the least times, and ours by the byte.
     pub fn row(&self, name: &str, bytes: usize, ours: impl FnMut() -> usize, theirs: impl FnMut() -> usize) {
+        self.row_of(name, bytes, 1, ours, theirs);
+    }
+
+    /// The same for calls that do so many pieces of work, by the piece.
+    pub fn row_of(&self, name: &str, bytes: usize, pieces: usize, ours: impl FnMut() -> usize, theirs: impl FnMut() -> usize) {
         let (ours, theirs): (Time, Time) = measure(ours, theirs);
         println!(
             "{name:<44} {bytes:>7} {:>10.0} {:>10.0} {:>7.2} {:>7.2} {:>10.2}",
-            ours.median,
-            theirs.median,
+            ours.median / pieces as f64,
+            theirs.median / pieces as f64,
             ours.median / theirs.median,
             ours.least / theirs.least,
-            ours.median / bytes as f64
+            ours.median / (pieces * bytes) as f64
         );
     }
 }

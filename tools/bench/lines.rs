@@ -11,20 +11,31 @@ use std::hint::black_box;
 const SIZES: [usize; 3] = [60, 400, 4_000];
 const OPENING: &str = "#pragma omp parallel for";
 
+/// Lines in a call that reads many.
+const MANY: usize = 100;
+
 pub fn rows(report: &Report, folder: &str) {
+    let books = [("small book", small_book()), ("openmp.drb", openmp_book(folder))];
     report.heading("whole line against the Rust's steps, one line a call, registries built once", "Rust ns");
-    for (title, book) in [("small book", small_book()), ("openmp.drb", openmp_book(folder))] {
+    for (title, book) in &books {
         for bytes in SIZES {
-            row(report, &format!("line {bytes}, not broken, {title}"), &book, &directive(bytes));
-            row(report, &format!("line {bytes}, broken, {title}"), &book, &broken(bytes, 80.min(bytes / 2)));
+            row(report, &format!("line {bytes}, not broken, {title}"), book, &directive(bytes, 0));
+            row(report, &format!("line {bytes}, broken, {title}"), book, &broken(bytes, 0));
+        }
+    }
+    report.heading("the same by the line, 100 lines a call under one check of the book", "Rust ns");
+    for (title, book) in &books {
+        for bytes in SIZES {
+            many_row(report, &format!("lines {bytes}, not broken, {title}"), book, |turn| directive(bytes, turn));
+            many_row(report, &format!("lines {bytes}, broken, {title}"), book, |turn| broken(bytes, turn));
         }
     }
 }
 
-/// A directive of so many bytes: as many whole clauses as fit, and blanks.
-fn directive(bytes: usize) -> String {
+/// A directive of so many bytes: as many whole clauses as fit, the first by the turn, and blanks.
+fn directive(bytes: usize, turn: usize) -> String {
     let mut text = String::from(OPENING);
-    for clause in TYPICAL.iter().cycle() {
+    for clause in TYPICAL.iter().cycle().skip(turn % TYPICAL.len()) {
         if text.len() + 1 + clause.len() > bytes {
             break;
         }
@@ -34,10 +45,11 @@ fn directive(bytes: usize) -> String {
     format!("{text:<bytes$}")
 }
 
-/// The same in physical lines of so many bytes, each but the last with a break at its end.
-fn broken(bytes: usize, line: usize) -> String {
+/// The same in physical lines of 80 bytes, or in two halves, each but the last with a break at its end.
+fn broken(bytes: usize, turn: usize) -> String {
+    let line = 80.min(bytes / 2);
     let breaks = (bytes - 1) / line;
-    let text = directive(bytes - 2 * breaks);
+    let text = directive(bytes - 2 * breaks, turn);
     let (before, last) = text.split_at(breaks * (line - 2));
     let parts = (0..breaks).map(|i| before[i * (line - 2)..(i + 1) * (line - 2)].to_string() + "\\\n");
     parts.chain([last.to_string()]).collect()
@@ -57,17 +69,6 @@ fn theirs(book: &Book, line: &str) -> Option<usize> {
     Some(black_box(clauses).len())
 }
 
-/// What our call answers, as the oracle writes it.
-fn answered(line: &str, lent: &mut Slots, answer: u64) -> String {
-    let reading = lent.reading.map(|number| number as usize);
-    let (mut text, mut map) = (Lent::new(lent.text.len()), Lent::new(lent.map.len()));
-    text.keep(&lent.text);
-    map.keep(&lent.map);
-    assert!(ours::refusal(answer).is_none(), "refused: {line}");
-    let head = head(&Ok(vec![answer as usize, reading[0], reading[1], reading[2], reading[3]]));
-    format!("{head} : {} : {} : {}", text.listed(), map.listed(), listed(&lent.records))
-}
-
 /// What is lent for a line: as many slots as it takes.
 struct Slots {
     text: Vec<u8>,
@@ -76,8 +77,41 @@ struct Slots {
     reading: [u64; 4],
 }
 
-fn slots(line: &str, count: usize) -> Slots {
-    Slots { text: vec![170; line.len()], map: vec![43_690; line.len() + 1], records: vec![ours::ClauseRecord::BEFORE; count], reading: [u64::MAX; 4] }
+impl Slots {
+    fn new(line: &str, count: usize) -> Self {
+        Self {
+            text: vec![170; line.len()],
+            map: vec![43_690; line.len() + 1],
+            records: vec![ours::ClauseRecord::BEFORE; count],
+            reading: [u64::MAX; 4],
+        }
+    }
+
+    fn read(&mut self, book: &[u8], line: &str) -> u64 {
+        ours::line(book, line.as_bytes(), &mut self.text, &mut self.map, &mut self.records, &mut self.reading)
+    }
+
+    /// An answer with what the slots hold, as the oracle writes it.
+    fn written(&self, answer: u64) -> String {
+        let (mut text, mut map) = (Lent::new(self.text.len()), Lent::new(self.map.len()));
+        text.keep(&self.text);
+        map.keep(&self.map);
+        let numbers = [answer].into_iter().chain(self.reading).map(|number| number as usize);
+        format!("{} : {} : {} : {}", head(&Ok(numbers.collect())), text.listed(), map.listed(), listed(&self.records))
+    }
+}
+
+/// The slots of a line and our answer to it, which is the oracle's.
+fn answered(book: &[u8], line: &str, shelf: &mut Shelf) -> (Slots, u64) {
+    let count = theirs(shelf.book(book).expect("a valid book"), line).expect("a line that is read");
+    let joining =
+        Joining { language: Language::C, prefix: "omp", text_slots: line.len(), map_slots: line.len() + 1, line: line.as_bytes().to_vec() };
+    let request = Request::Line { joining, record_slots: count, book: book.to_vec() };
+    let expected = calls::answer(&request, shelf).expect("an oracle that agrees with itself");
+    let mut slots = Slots::new(line, count);
+    let answer = slots.read(book, line);
+    assert_eq!(slots.written(answer), expected, "{line}");
+    (slots, answer)
 }
 
 fn row(report: &Report, name: &str, book: &[u8], line: &str) {
@@ -85,19 +119,31 @@ fn row(report: &Report, name: &str, book: &[u8], line: &str) {
         return;
     }
     let mut shelf = Shelf::default();
-    let count = theirs(shelf.book(book).expect("a valid book"), line).expect("a line that is read");
-    let joining =
-        Joining { language: Language::C, prefix: "omp", text_slots: line.len(), map_slots: line.len() + 1, line: line.as_bytes().to_vec() };
-    let request = Request::Line { joining, record_slots: count, book: book.to_vec() };
-    let expected = calls::answer(&request, &mut shelf).expect("an oracle that agrees with itself");
-    let mut lent = slots(line, count);
-    let answer = ours::line(book, line.as_bytes(), &mut lent.text, &mut lent.map, &mut lent.records, &mut lent.reading);
-    assert_eq!(answered(line, &mut lent, answer), expected, "{name}");
+    let (mut slots, _) = answered(book, line, &mut shelf);
     let registries = shelf.book(book).expect("a valid book");
-    report.row(
+    report.row(name, line.len(), || slots.read(book, black_box(line)) as usize, || theirs(registries, black_box(line)).unwrap_or(0));
+}
+
+fn many_row(report: &Report, name: &str, book: &[u8], line: impl Fn(usize) -> String) {
+    if !report.wants(name) {
+        return;
+    }
+    let mut shelf = Shelf::default();
+    let lines: Vec<String> = (0..MANY).map(line).collect();
+    let (bytes, whole) = (lines[0].len(), lines.concat());
+    let ends: Vec<usize> = lines.iter().scan(0, |end, line| { *end += line.len(); Some(*end) }).collect();
+    let read: Vec<(Slots, u64)> = lines.iter().map(|line| answered(book, line, &mut shelf)).collect();
+    let room = read.iter().map(|(slots, _)| slots.records.len()).max().unwrap_or(0);
+    let (mut text, mut map, mut answers) = (vec![170u8; bytes], vec![43_690u16; bytes + 1], vec![u64::MAX; MANY]);
+    assert_eq!(ours::lines(book, whole.as_bytes(), &ends, &mut text, &mut map, room, &mut answers) as usize, MANY, "{name}");
+    assert!(answers.iter().eq(read.iter().map(|(_, answer)| answer)), "{name}");
+    assert!(text.iter().all(|&slot| slot == 0) && map.iter().all(|&slot| slot == 0), "{name}");
+    let registries = shelf.book(book).expect("a valid book");
+    report.row_of(
         name,
-        line.len(),
-        || ours::line(book, black_box(line.as_bytes()), &mut lent.text, &mut lent.map, &mut lent.records, &mut lent.reading) as usize,
-        || theirs(registries, black_box(line)).unwrap_or(0),
+        bytes,
+        MANY,
+        || ours::lines(book, black_box(whole.as_bytes()), &ends, &mut text, &mut map, room, &mut answers) as usize,
+        || lines.iter().map(|line| theirs(registries, black_box(line)).unwrap_or(0)).sum(),
     );
 }

@@ -40,6 +40,23 @@ unsafe extern "C" {
         records_len: usize,
         reading: *mut [u64; 4],
     ) -> u64;
+    fn pelzurda_lines(
+        language: u32,
+        prefix: u32,
+        book: *const u8,
+        book_len: usize,
+        lines: *const u8,
+        lines_len: usize,
+        ends: *const usize,
+        ends_len: usize,
+        text: *mut u8,
+        text_len: usize,
+        map: *mut u16,
+        map_len: usize,
+        slots: usize,
+        answers: *mut u64,
+        answers_len: usize,
+    ) -> u64;
 }
 
 /// `struct pelzurda_record` of the header.
@@ -126,6 +143,29 @@ pub fn line(book: &[u8], line: &[u8], text: &mut [u8], map: &mut [u16], records:
             records.as_mut_ptr(),
             records.len(),
             reading,
+        )
+    }
+}
+
+/// In C, with the prefix omp.
+pub fn lines(book: &[u8], lines: &[u8], ends: &[usize], text: &mut [u8], map: &mut [u16], slots: usize, answers: &mut [u64]) -> u64 {
+    unsafe {
+        pelzurda_lines(
+            C,
+            0,
+            book.as_ptr(),
+            book.len(),
+            lines.as_ptr(),
+            lines.len(),
+            ends.as_ptr(),
+            ends.len(),
+            text.as_mut_ptr(),
+            text.len(),
+            map.as_mut_ptr(),
+            map.len(),
+            slots,
+            answers.as_mut_ptr(),
+            answers.len(),
         )
     }
 }
