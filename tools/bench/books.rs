@@ -1,4 +1,4 @@
-//! The book check, which the Rust has not: beside it stands one pass over the same bytes that sums them.
+//! The book check, which the Rust has not: beside it stands one pass over the same bytes that sums them. And the lookup of a clause's name.
 
 use crate::{Report, ours};
 use std::hint::black_box;
@@ -12,6 +12,11 @@ pub fn rows(report: &Report, folder: &str) {
     row(report, "book full, names of 64 differ in the middle", &book(255, 255, |i| format!("{}{i:03}{}", "x".repeat(30), "x".repeat(31))));
     let openmp = std::fs::read(format!("{folder}/openmp.drb")).expect("books/openmp.drb");
     row(report, "book openmp.drb", &openmp);
+    report.heading("500 clauses with a book's last name beside its first; as bytes count the entries passed over", "first ns");
+    lookup(report, "lookup typical, 60 names", &book(40, 60, typical_name));
+    lookup(report, "lookup full, 255 names", &book(255, 255, typical_name));
+    lookup(report, "lookup full, names of one length", &book(255, 255, |i| format!("directive_name_{i:03}")));
+    lookup(report, "lookup openmp.drb", &openmp);
 }
 
 /// Names of 4 to 19 letters, no two alike.
@@ -53,4 +58,37 @@ fn row(report: &Report, name: &str, book: &[u8]) {
     }
     assert_eq!(ours::check_book(book), 0, "{name}");
     report.row(name, book.len(), || ours::check_book(black_box(book)) as usize, || sum(black_box(book)));
+}
+
+const LOOKUPS: usize = 500;
+
+/// A clause of each entry, as its rule has it.
+fn clauses(book: &[u8]) -> Vec<String> {
+    let mut at = (0..book[7]).fold(9, |at, _| at + 1 + usize::from(book[at]));
+    let mut next = || {
+        let start = at + 2;
+        let rule = book[at];
+        at = start + usize::from(book[start - 1]);
+        let name = String::from_utf8_lossy(&book[start..at]);
+        if rule == 1 { format!("{name}()") } else { name.into_owned() }
+    };
+    (0..book[8]).map(|_| next()).collect()
+}
+
+/// What the two sides differ by is the lookups, but for the bytes of longer names.
+fn lookup(report: &Report, name: &str, book: &[u8]) {
+    if !report.wants(name) {
+        return;
+    }
+    let clauses = clauses(book);
+    let last = clauses.len() - 1;
+    let read = |text: &str| {
+        let mut records = [ours::ClauseRecord::BEFORE; LOOKUPS];
+        let count = ours::sequence(book, black_box(text.as_bytes()), &mut records, &mut [0]);
+        assert_eq!(count as usize, LOOKUPS, "{name}");
+        usize::from(records[LOOKUPS - 1].entry)
+    };
+    let texts = [last, 0].map(|entry| vec![clauses[entry].as_str(); LOOKUPS].join(" "));
+    assert_eq!(texts.each_ref().map(|text| read(text)), [last, 0], "{name}");
+    report.row(name, LOOKUPS * last, || read(&texts[0]), || read(&texts[1]));
 }
