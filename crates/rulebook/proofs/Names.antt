@@ -35,10 +35,14 @@ module _ (f : ℕ → ℕ) where
   same-lengths (x ∷ xs) [] e = refl
   same-lengths (x ∷ xs) (y ∷ ys) e = rw (same-lengths xs ys (λ h. e (ap suc h)), and-false)
 
-  pub same-next : (a b : List ℕ) (i : ℕ) → i < length a → i < length b
-      → sameBy f (drop i a) (drop i b) ≡ (eqb (f (getD a i 0)) (f (getD b i 0)) && sameBy f (drop (i + 1) a) (drop (i + 1) b))
+  -- one more byte before what is left of both
+  pub same-before : (a b : List ℕ) (n i : ℕ) → n ≡ i + 1 → n ≤ length a → n ≤ length b → eqb (f (getD a i 0)) (f (getD b i 0)) ≡ true
+      → sameBy f (drop n a) (drop n b) ≡ true → sameBy f (drop i a) (drop i b) ≡ true
   unfolding sameBy
-  same-next a b i h g = rw (add-one, drop-cons a i 0, drop-cons b i 0)
+  same-before a b n i e h g t r =
+      let k : i < length a = omega arith in
+      let l : i < length b = omega arith in
+      rw (drop-cons a i 0, drop-cons b i 0, k, l, t) (rw (e, add-one) at r)
 
   pub same-end : (a b : List ℕ) (i : ℕ) → length a ≤ i → length b ≤ i → sameBy f (drop i a) (drop i b) ≡ true
   unfolding sameBy

@@ -45,20 +45,14 @@ pub fn same(a: &[u8], b: &[u8], ignore_case: bool) -> bool
     if count != b.len() {
         return false;
     }
-    if count == 0 {
-        return true;
-    }
-    // names that count upwards differ at their end
-    let end = count - 1;
-    if !same_byte(a[end], b[end], ignore_case) {
-        return false;
-    }
-    let mut i = 0;
-    while i < count {
+    // names that begin alike, as those that count upwards, differ near their end
+    let mut left = count;
+    while 0 < left {
+        let i = left - 1;
         if !same_byte(a[i], b[i], ignore_case) {
             return false;
         }
-        i += 1;
+        left = i;
     }
     true
 }
