@@ -2,6 +2,7 @@ pub mod SameNames
 pub mod Ends
 pub mod Agreeing
 pub mod Tallying
+pub mod Growing
 pub mod Keeping
 pub mod Long
 pub mod Naming

@@ -89,7 +89,7 @@ fn kept_entry(book: &[u8], header: Header, buffer: &[u8], len: usize) -> Found
     names::entry_of(book, header, &buffer[..len])
 }
 
-// What follows the candidate that is kept, whose last word ends at a place. Trivia comes first, before anything is decided.
+// What follows the candidate that is kept, with its entry, whose last word ends at a place. Trivia comes first, before anything is decided.
 fn next_word(
     book: &[u8],
     header: Header,
@@ -97,10 +97,12 @@ fn next_word(
     end: usize,
     buffer: &[u8],
     len: usize,
+    entry: Found,
 ) -> Next
     requires { ⌜ header ≡ headerOf (now book) ⌝ }
     requires { ⌜ LaidIn (header .directives) (now book) ⌝ }
     requires { ⌜ (end ≤ length (now text)) × (length (now buffer) ≡ 512) ⌝ }
+    requires { ⌜ foundAt entry ≡ entryIf (bookOf (now book)) (keptIn len (now buffer)) ⌝ }
     ensures { λ r. ⌜ r ≡ nextIf (bookOf (now (book .entry))) (now (text .entry)) end (keptIn len (now (buffer .entry))) ⌝ }
     ensures { λ r. ⌜ Ahead end (length (now (text .entry))) r ⌝ }
 {
@@ -113,7 +115,7 @@ fn next_word(
             if len > 512 {
                 return Next::End;
             }
-            if names::may_grow(book, header, &buffer[..len]) {
+            if names::may_grow(book, header, &buffer[..len], entry) {
                 Next::Word(p)
             } else {
                 Next::End
@@ -166,8 +168,9 @@ fn search(
     while starts_word(text, place) {
         let end = run_end(text, place, ByteSet::Word);
         len = candidate::push_word(buffer, len, text, place, end);
-        found = remember(kept_entry(book, header, buffer, len), end, found);
-        match next_word(book, header, text, end, buffer, len) {
+        let entry = kept_entry(book, header, buffer, len);
+        found = remember(entry, end, found);
+        match next_word(book, header, text, end, buffer, len, entry) {
             Next::Word(p) => {
                 place = p;
             }

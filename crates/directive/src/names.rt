@@ -157,12 +157,16 @@ pub fn entry_of(book: &[u8], header: Header, candidate: &[u8]) -> Found
     }
 }
 
-// Whether some name equals a candidate or begins with its words.
-pub fn may_grow(book: &[u8], header: Header, candidate: &[u8]) -> bool
+// Whether some name equals a candidate or begins with its words. One that has an entry is such a name, and no other is asked.
+pub fn may_grow(book: &[u8], header: Header, candidate: &[u8], entry: Found) -> bool
     requires { ⌜ header ≡ headerOf (now book) ⌝ }
     requires { ⌜ LaidIn (header .directives) (now book) ⌝ }
+    requires { ⌜ foundAt entry ≡ entryOf (bookOf (now book)) (now candidate) ⌝ }
     ensures { λ r. ⌜ r ≡ mayGrow (bookOf (now (book .entry))) (now (candidate .entry)) ⌝ }
 {
+    if let Found::At(_) = entry {
+        return true;
+    }
     let directives = header.directives;
     let exact = Comparison {
         ignore_case: header.ignores_case,

@@ -1,6 +1,6 @@
 -- `directive::next_word` meets its contract: trivia first, then a word, then whether the candidate may grow.
 -- Assumes nothing.
-use mathlib.Core.Path.{_≡_, sym, subst, _∙_}
+use mathlib.Core.Path.{_≡_, refl, sym, subst, _∙_}
 use mathlib.Core.Bool.{cond, _&&_}
 use native.Mathlib.Omega.{arith}
 use lib.Seq.{length-take-le}
@@ -64,6 +64,12 @@ returns-4 c =
 returns-5 : tie.Need-returns-5
 returns-5 c = (sym (rw (c .if3 .left) at (grown (c .before))), tt)
 
+-- the entry is that of the candidate
+asked : tie.Need-may-grow-requires
+asked c κs =
+    let s = c .before .before .before .before .before .before .before .before .before .before .before in
+    (s .pre .0, (s .pre .1 .0, s .pre .1 .1 .1 ∙ rw (le-leb _ _ (c .before .if2 .left)) refl))
+
 pub next-word-spec : {M : Type 1} → statement M
 next-word-spec =
     tie.close
@@ -75,7 +81,7 @@ next-word-spec =
     returns
     returns-2
     (λ c. let a = c .before .before .before .before .before .before .before .before .before .before .before .args in sym (length-take-le (a .len) (a .buffer .now) (omega arith)))
-    (λ c κs. search needs)
+    asked
     returns-3
     returns-4
     returns-5)

@@ -158,7 +158,7 @@ search-spec =
     (λ c κs. (omega arith, omega arith))
     (λ c κs. (c .before .before .before .before .before .before .before .before .before .before .before .before .pre .0, (c .before .before .before .before .before .before .before .before .before .before .before .before .pre .1 .0, omega arith)))
     (λ c κs. search needs)
-    (λ c κs. (c .before .before .before .before .before .before .before .before .before .before .before .before .before .before .before .pre .0, (c .before .before .before .before .before .before .before .before .before .before .before .before .before .before .before .pre .1 .0, (omega arith, omega arith))))
+    (λ c κs. (c .before .before .before .before .before .before .before .before .before .before .before .before .before .before .before .pre .0, (c .before .before .before .before .before .before .before .before .before .before .before .before .before .before .before .pre .1 .0, ((omega arith, omega arith), c .before .before .kept-entry .ensures))))
     (λ c. search needs)
     (λ c. omega (arith, follows c, ahead (c .before .before .before .before .before .before .before .before .before .before)))
     loop-again
