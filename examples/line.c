@@ -44,8 +44,8 @@ int main(void) {
     /* the answers of two lines under one check of the book */
     const char lines[] = "#pragma omp parallel for nowait\n#pragma omp barrier\n";
     const size_t ends[2] = {32, sizeof lines - 1};
-    uint64_t answers[2];
+    uint64_t answers[2][5];
     uint64_t answered = pelzurda_lines(PELZURDA_C, PELZURDA_OMP, book, sizeof book - 1, (const uint8_t *)lines, sizeof lines - 1, ends, 2, text, 64, map, 65, 8, answers, 2);
-    printf("%u lines: entry %u, refusal %u at %u\n", (unsigned)answered, (unsigned)answers[0], (unsigned)pelzurda_number(answers[1]), (unsigned)pelzurda_place(answers[1]));
-    return reading[2] == 2 && pelzurda_number(count) == PELZURDA_NO_CLAUSE && records[0].name_end == 0 && answers[0] == 0 && pelzurda_number(answers[1]) == PELZURDA_NO_DIRECTIVE ? 0 : 1;
+    printf("%u lines: entry %u, refusal %u at %u\n", (unsigned)answered, (unsigned)answers[0][0], (unsigned)pelzurda_number(answers[1][0]), (unsigned)pelzurda_place(answers[1][0]));
+    return reading[2] == 2 && pelzurda_number(count) == PELZURDA_NO_CLAUSE && records[0].name_end == 0 && answers[0][0] == 0 && answers[0][3] == 1 && pelzurda_number(answers[1][0]) == PELZURDA_NO_DIRECTIVE ? 0 : 1;
 }

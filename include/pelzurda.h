@@ -106,11 +106,12 @@ uint64_t pelzurda_line(uint32_t language, uint32_t prefix, const uint8_t *book, 
 
 /* The answers of many lines under one check of the book: how many lines were answered, as many as there are ends and slots. Line k ends before
  * byte ends[k] of `lines` and starts where line k - 1 has ended; an end before that start is an empty line, one behind the bytes is their end.
- * answers[k] is what pelzurda_line gives for line k with so many `slots` for records: the directive's entry, or a refusal. Slots behind the last
- * answer are 0. `text` and `map` are working space of the sizes that the longest line needs, zeroed at the end. */
+ * answers[k] is what pelzurda_line gives for line k with so many `slots` for records: the directive's entry or a refusal, and the four numbers of
+ * the reading. Slots behind the last answer hold zeros. `text` and `map` are working space of the sizes that the longest line needs, zeroed at the
+ * end. */
 uint64_t pelzurda_lines(uint32_t language, uint32_t prefix, const uint8_t *book, size_t book_len, const uint8_t *lines, size_t lines_len,
                         const size_t *ends, size_t ends_len, uint8_t *text, size_t text_len, uint16_t *map, size_t map_len, size_t slots,
-                        uint64_t *answers, size_t answers_len);
+                        uint64_t (*answers)[5], size_t answers_len);
 
 #ifdef __cplusplus
 }

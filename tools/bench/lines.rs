@@ -134,9 +134,10 @@ fn many_row(report: &Report, name: &str, book: &[u8], line: impl Fn(usize) -> St
     let ends: Vec<usize> = lines.iter().scan(0, |end, line| { *end += line.len(); Some(*end) }).collect();
     let read: Vec<(Slots, u64)> = lines.iter().map(|line| answered(book, line, &mut shelf)).collect();
     let room = read.iter().map(|(slots, _)| slots.records.len()).max().unwrap_or(0);
-    let (mut text, mut map, mut answers) = (vec![170u8; bytes], vec![43_690u16; bytes + 1], vec![u64::MAX; MANY]);
+    let (mut text, mut map, mut answers) = (vec![170u8; bytes], vec![43_690u16; bytes + 1], vec![[u64::MAX; 5]; MANY]);
     assert_eq!(ours::lines(book, whole.as_bytes(), &ends, &mut text, &mut map, room, &mut answers) as usize, MANY, "{name}");
-    assert!(answers.iter().eq(read.iter().map(|(_, answer)| answer)), "{name}");
+    let expected = read.iter().map(|(slots, answer)| [*answer, slots.reading[0], slots.reading[1], slots.reading[2], slots.reading[3]]);
+    assert!(answers.iter().copied().eq(expected), "{name}");
     assert!(text.iter().all(|&slot| slot == 0) && map.iter().all(|&slot| slot == 0), "{name}");
     let registries = shelf.book(book).expect("a valid book");
     report.row_of(

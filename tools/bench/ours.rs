@@ -54,7 +54,7 @@ unsafe extern "C" {
         map: *mut u16,
         map_len: usize,
         slots: usize,
-        answers: *mut u64,
+        answers: *mut [u64; 5],
         answers_len: usize,
     ) -> u64;
 }
@@ -148,7 +148,7 @@ pub fn line(book: &[u8], line: &[u8], text: &mut [u8], map: &mut [u16], records:
 }
 
 /// In C, with the prefix omp.
-pub fn lines(book: &[u8], lines: &[u8], ends: &[usize], text: &mut [u8], map: &mut [u16], slots: usize, answers: &mut [u64]) -> u64 {
+pub fn lines(book: &[u8], lines: &[u8], ends: &[usize], text: &mut [u8], map: &mut [u16], slots: usize, answers: &mut [[u64; 5]]) -> u64 {
     unsafe {
         pelzurda_lines(
             C,

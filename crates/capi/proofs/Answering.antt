@@ -10,7 +10,7 @@ use lib.Seq.{drop-cons}
 use Rattle.ascii.proofs.Slots.{pushed, complete}
 use Rattle.lexer.specs.declared.Language.{Language}
 use Rattle.lexer.specs.declared.Prefix.{Prefix}
-use Rattle.capi.specs.Lines.{endOf, answerBetween, answersFrom}
+use Rattle.capi.specs.Lines.{endOf, noLine, answerBetween, answersFrom}
 
 module _ (l : Language) (p : Prefix) (book lines : List ℕ) (ts ms rs n i at : ℕ) (ends : List ℕ) where
   next-answer : i < n → i < length ends
@@ -22,7 +22,7 @@ module _ (l : Language) (p : Prefix) (book lines : List ℕ) (ts ms rs n i at : 
       rw (e, add-one, drop-cons ends i 0) refl
 
   no-line : i < n → length ends ≤ i
-      → answersFrom l p book lines ts ms rs (n - i) at (drop i ends) ≡ 0 ∷ answersFrom l p book lines ts ms rs (n - (i + 1)) at (drop (i + 1) ends)
+      → answersFrom l p book lines ts ms rs (n - i) at (drop i ends) ≡ noLine ∷ answersFrom l p book lines ts ms rs (n - (i + 1)) at (drop (i + 1) ends)
   unfolding answersFrom
   no-line h k =
       let e : n - i ≡ suc (n - (i + 1)) = omega arith in
@@ -35,19 +35,19 @@ module _ (l : Language) (p : Prefix) (book lines : List ℕ) (ts ms rs n i at : 
       let e : n - i ≡ 0 = omega arith in
       rw e refl
 
-  -- a slot is filled: by the next line's answer, or by 0
-  pub fills : (answers whole : List ℕ) (stop code : ℕ) → i < n → i < length ends → i < length answers → stop ≡ endOf (length lines) at (getD ends i 0)
+  -- a slot is filled: by the next line's answer, or by zeros
+  pub fills : (answers whole : List (List ℕ)) (stop : ℕ) (code : List ℕ) → i < n → i < length ends → i < length answers → stop ≡ endOf (length lines) at (getD ends i 0)
       → code ≡ answerBetween l p book lines ts ms rs at stop
       → take i answers ++ answersFrom l p book lines ts ms rs (n - i) at (drop i ends) ≡ whole
       → take (i + 1) (set answers i code) ++ answersFrom l p book lines ts ms rs (n - (i + 1)) stop (drop (i + 1) ends) ≡ whole
   fills answers whole stop code h k f e d inv = rw (pushed, f, d, e) (rw (next-answer h k) at inv)
 
-  pub clears : (answers whole : List ℕ) → i < n → length ends ≤ i → i < length answers
+  pub clears : (answers whole : List (List ℕ)) → i < n → length ends ≤ i → i < length answers
       → take i answers ++ answersFrom l p book lines ts ms rs (n - i) at (drop i ends) ≡ whole
-      → take (i + 1) (set answers i 0) ++ answersFrom l p book lines ts ms rs (n - (i + 1)) at (drop (i + 1) ends) ≡ whole
+      → take (i + 1) (set answers i noLine) ++ answersFrom l p book lines ts ms rs (n - (i + 1)) at (drop (i + 1) ends) ≡ whole
   clears answers whole h k f inv = rw (pushed, f) (rw (no-line h k) at inv)
 
-  pub filled : (answers whole : List ℕ) → n ≤ i → length answers ≤ i → take i answers ++ answersFrom l p book lines ts ms rs (n - i) at (drop i ends) ≡ whole → answers ≡ whole
+  pub filled : (answers whole : List (List ℕ)) → n ≤ i → length answers ≤ i → take i answers ++ answersFrom l p book lines ts ms rs (n - i) at (drop i ends) ≡ whole → answers ≡ whole
   filled answers whole h k inv = rw (no-slot h, complete, k) at inv
 
 -- slots that are zeroed from the front on

@@ -71,6 +71,10 @@ abbrev pub readingNumbers : Answer Reading → List ℕ
 readingNumbers (given r) = r .«name_start» ∷ r .«name_end» ∷ r .count ∷ r .rest ∷ []
 readingNumbers (refused n place) = 0 ∷ 0 ∷ 0 ∷ 0 ∷ []
 
+-- both as five numbers
+abbrev pub codedReading : Answer Reading → List ℕ
+codedReading a = codedLine a ∷ readingNumbers a
+
 pub record LineCoded : Type 0 where
   pub answer : ℕ
   pub text : List ℕ

@@ -1,33 +1,36 @@
--- What the call for many lines gives: under one check of the book, the answer of each line, as one number.
+-- What the call for many lines gives: under one check of the book, the answer of each line, as five numbers.
 use Prim.Native.Nat.{ℕ, zero, suc, _-_, min, max}
 use mathlib.Core.List.{List, [], _∷_}
 use lib.ListN.{length, take, drop, replicate}
 use Rattle.lexer.specs.declared.Language.{Language}
 use Rattle.lexer.specs.declared.Prefix.{Prefix}
 use Rattle.reader.specs.Calls.{lineCall}
-use Rattle.capi.specs.Coded.{codedLine}
+use Rattle.capi.specs.Coded.{codedReading}
 
 -- where a line ends that starts at a place: no earlier, and not behind the bytes
 abbrev pub endOf : ℕ → ℕ → ℕ → ℕ
 endOf size at end = max at (min end size)
 
+abbrev pub noLine : List ℕ
+noLine = 0 ∷ 0 ∷ 0 ∷ 0 ∷ 0 ∷ []
+
 module _ (l : Language) (p : Prefix) (book lines : List ℕ) (textSlots mapSlots recordSlots : ℕ) where
   -- the answer of the line from one place to another
-  abbrev pub answerBetween : ℕ → ℕ → ℕ
-  answerBetween at stop = codedLine (lineCall l p book (take (stop - at) (drop at lines)) textSlots mapSlots recordSlots .answer)
+  abbrev pub answerBetween : ℕ → ℕ → List ℕ
+  answerBetween at stop = codedReading (lineCall l p book (take (stop - at) (drop at lines)) textSlots mapSlots recordSlots .answer)
 
-  -- so many answers, of lines that start where the one before has ended; a slot with no line is 0
-  unfoldable pub answersFrom : ℕ → ℕ → List ℕ → List ℕ
+  -- so many answers, of lines that start where the one before has ended; a slot with no line holds zeros
+  unfoldable pub answersFrom : ℕ → ℕ → List ℕ → List (List ℕ)
   unfolding lineCall
   answersFrom zero at ends = []
-  answersFrom (suc n) at [] = 0 ∷ answersFrom n at []
+  answersFrom (suc n) at [] = noLine ∷ answersFrom n at []
   answersFrom (suc n) at (end ∷ ends) = answerBetween at (endOf (length lines) at end) ∷ answersFrom n (endOf (length lines) at end) ends
 
 pub record LinesCall : Type 0 where
   pub count : ℕ
   pub text : List ℕ
   pub map : List ℕ
-  pub answers : List ℕ
+  pub answers : List (List ℕ)
 
 -- the number of lines that were answered, and every lent slot; text and map are working space
 abbrev pub linesCall : Language → Prefix → List ℕ → List ℕ → List ℕ → ℕ → ℕ → ℕ → ℕ → LinesCall

@@ -245,7 +245,7 @@ pub extern "C" fn pelzurda_line(
 }
 
 // Many lines under one check of the book: the number of lines that were answered, each in its slot. Line i ends at its end number, and starts where the
-// one before has ended. Text and map are working space, zeroed at the end; so many record slots a line may take.
+// one before has ended; its slot holds its answer with the four numbers of its reading. Text and map are working space, zeroed at the end; so many record slots a line may take.
 #[no_mangle]
 pub extern "C" fn pelzurda_lines(
     language: u32,
@@ -256,7 +256,7 @@ pub extern "C" fn pelzurda_lines(
     text: &mut [u8],
     map: &mut [u16],
     slots: usize,
-    answers: &mut [u64],
+    answers: &mut [[u64; 5]],
 ) -> u64
     ensures { λ r. ⌜ record { count = r; text = now (text .exit); map = now (map .exit); answers = now (answers .exit) }
         ≡ linesCall (languageOf language) (prefixOf prefix) (now (book .entry)) (now (lines .entry)) (now (ends .entry)) (length (now (text .entry))) (length (now (map .entry))) slots (length (now (answers .entry))) ⌝ }

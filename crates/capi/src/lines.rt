@@ -10,16 +10,27 @@ ghost use Prim.Native.Nat.{_≤_, min};
 ghost use lib.ListN.{length};
 ghost use Rattle.rulebook.specs.Check.{bookCall, bookGives};
 ghost use Rattle.reader.specs.Calls.{lineGives};
-ghost use Rattle.capi.specs.Coded.{codedLine};
+ghost use Rattle.capi.specs.Coded.{codedReading};
 ghost use Rattle.capi.specs.Lines.{endOf, answersFrom};
 
-// A line's answer as one number.
-fn line_number(answer: LineAnswer) -> u64
-    ensures { λ r. ⌜ r ≡ codedLine (lineGives answer) ⌝ }
+// A line's answer as five numbers.
+fn line_numbers(answer: LineAnswer) -> [u64; 5]
+    ensures { λ r. ⌜ r ≡ codedReading (lineGives answer) ⌝ }
 {
     match answer {
-        LineAnswer::Read(read) => read.entry as u64,
-        LineAnswer::Refused(refused) => code_of(refused),
+        LineAnswer::Read(read) => {
+            let entry = read.entry as u64;
+            let name_start = read.name_start as u64;
+            let name_end = read.name_end as u64;
+            [
+                entry,
+                name_start,
+                name_end,
+                read.count as u64,
+                read.rest as u64,
+            ]
+        }
+        LineAnswer::Refused(refused) => [code_of(refused), 0, 0, 0, 0],
     }
 }
 
@@ -45,7 +56,7 @@ pub fn answer_lines(
     text: &mut [u8],
     map: &mut [u16],
     slots: usize,
-    answers: &mut [u64],
+    answers: &mut [[u64; 5]],
 )
     requires { ⌜ bookGives verdict ≡ bookCall (now book) ⌝ }
     ensures { λ _. ⌜ now (answers .exit)
@@ -58,11 +69,13 @@ pub fn answer_lines(
             let stop = line_end(lines.len(), at, ends[i]);
             let line = &lines[at..stop];
             let answer = many::line_answer(language, prefix, book, verdict, line, text, map, slots);
-            answers[i] = line_number(answer);
+            let numbers = line_numbers(answer);
+            answers[i] = numbers;
             at = stop;
             i += 1;
         } else {
-            answers[i] = 0;
+            let zeros = [0, 0, 0, 0, 0];
+            answers[i] = zeros;
             i += 1;
         }
     }

@@ -6,7 +6,7 @@ use Prim.Native.Nat.{_+_, _-_, _≤_, _<_}
 use native.Mathlib.Omega.{arith}
 use lib.ListN.{length, take, drop, length-set}
 use borrow.Author.Needs.{needs}
-use Rattle.capi.specs.Coded.{codedLine}
+use Rattle.capi.specs.Coded.{codedReading}
 use Rattle.capi.specs.Lines.{answerBetween, answersFrom}
 use Rattle.capi.proofs.Answering.{fills, clears, filled}
 use Rattle.capi.proofs.lines.answer_lines.Statement.{statement}
@@ -27,24 +27,24 @@ abbrev μ-loop : tie.MeasureT-loop
 
 loop-again : tie.Need-loop-again Inv-loop μ-loop
 loop-again c =
-    let a = c .before .before .before .before .before .before .before .before .before .before .before .before .before .before .before .before .before .before .before .before .args in
+    let a = c .before .before .before .before .before .before .before .before .before .before .before .before .before .before .before .before .before .before .before .args in
     let l = c .before .before .before .before .before .before .before .before .before .before .before .before .before .loop in
     let answer = c .before .before .before .before .before .line-answer in
     let stop = c .before .before .before .before .before .before .before .before .before .line-end in
-    let code : c .line-number .result ≡ answerBetween (a .language) (a .prefix) (a .book .now) (a .lines .now) (length (a .text .now)) (length (a .map .now)) (a .slots) (l .at) (stop .result)
-    = rw (l .inv .2, l .inv .3) at (c .line-number .ensures ∙ ap codedLine (answer .ensures)) in (
+    let code : c .line-numbers .result ≡ answerBetween (a .language) (a .prefix) (a .book .now) (a .lines .now) (length (a .text .now)) (length (a .map .now)) (a .slots) (l .at) (stop .result)
+    = rw (l .inv .2, l .inv .3) at (c .line-numbers .ensures ∙ ap codedReading (answer .ensures)) in (
       omega (arith, stop .ensures .2),
       omega arith,
       omega arith,
       omega arith,
       simp length-set (omega arith),
       fills (a .language) (a .prefix) (a .book .now) (a .lines .now) (length (a .text .now)) (length (a .map .now)) (a .slots) (length (a .answers .now)) (l .i) (l .at) (a .ends .now) (l .answers) _
-          (stop .result) (c .line-number .result) (omega arith) (omega arith) (omega arith) (stop .ensures .0) code (l .inv .5),
+          (stop .result) (c .line-numbers .result) (omega arith) (omega arith) (omega arith) (stop .ensures .0) code (l .inv .5),
     )
 
 loop-again-2 : tie.Need-loop-again-2 Inv-loop μ-loop
 loop-again-2 c =
-    let a = c .before .before .before .before .before .before .before .before .before .args in
+    let a = c .before .before .before .before .before .before .before .before .args in
     let l = c .before .before .loop in (
       omega arith,
       omega arith,
@@ -57,7 +57,7 @@ loop-again-2 c =
 
 returns : tie.Need-returns Inv-loop μ-loop
 returns c =
-    let a = c .before .before .before .before .before .before .before .before .args in
+    let a = c .before .before .before .before .before .before .before .args in
     let l = c .before .loop in
     filled (a .language) (a .prefix) (a .book .now) (a .lines .now) (length (a .text .now)) (length (a .map .now)) (a .slots) (length (a .answers .now)) (l .i) (l .at) (a .ends .now) (l .answers) _ (omega arith) (omega arith) (l .inv .5)
 
@@ -67,7 +67,7 @@ answer-lines-spec =
     (tie.spec
     Inv-loop
     μ-loop
-    (λ c. let n = length (c .before .before .before .before .before .before .args .answers .now) in let e : n - 0 ≡ n = omega arith in
+    (λ c. let n = length (c .before .before .before .before .before .args .answers .now) in let e : n - 0 ≡ n = omega arith in
     (omega arith, omega arith, refl, refl, refl, rw e refl))
     (λ c. omega arith)
     (λ c. omega arith)
@@ -75,7 +75,7 @@ answer-lines-spec =
     (λ c. omega (arith, c .line-end .ensures .1))
     (λ c. omega (arith, c .line-end .ensures .1))
     (λ c. omega (arith, c .line-end .ensures .2))
-    (λ c κs. c .before .before .before .before .before .before .before .before .before .before .before .before .before .before .pre)
+    (λ c κs. c .before .before .before .before .before .before .before .before .before .before .before .before .before .pre)
     (λ c κs. search needs)
     (λ c. omega arith)
     (λ c. omega arith)
