@@ -10,12 +10,12 @@ use native.Mathlib.Numerals.{add-one}
 use native.Mathlib.Omega.{arith}
 use lib.ListN.{length, take, drop, getD, length-append, length-reverse, length-drop, length-take, drop-of-length-le}
 use lib.Seq.{drop-cons, take-suc, take-all, split-at, append-snoc}
-use lib.Dec.{eqb}
-use borrow.Author.Tests.{lt-ltb, le-ltb, eq-eqb, ne-eqb, eqb-true, eqb-false}
+use lib.Dec.{eqb, ltb}
+use borrow.Author.Tests.{lt-ltb, le-ltb, ltb-true, eq-eqb, ne-eqb, eqb-true, eqb-false}
 use Rattle.ascii.specs.declared.Range.{Range}
 use Rattle.ascii.specs.Ascii.{isTrimmed}
 use Rattle.ascii.specs.Text.{leading, trimmed, begins, firstHigh}
-use Rattle.ascii.proofs.Flags.{by-cases}
+use Rattle.ascii.proofs.Flags.{and-left, and-right, by-cases}
 
 -- runs
 pub leading-le : (p : ℕ → Bool) (xs : List ℕ) → leading p xs ≤ length xs
@@ -119,6 +119,19 @@ module _ (s : List ℕ) (i : ℕ) where
   pub high-none : length s ≤ i → firstHigh i (drop i s) ≡ none
   unfolding firstHigh
   high-none h = rw (drop-of-length-le s h)
+
+-- the k bytes after the one at a place, and that one, are not above 127
+module _ (s : List ℕ) (i : ℕ) where
+  abbrev pub lows : ℕ → Bool
+  lows zero = ltb (getD s i 0) 128
+  lows (suc k) = lows k && ltb (getD s (i + suc k) 0) 128
+
+  pub high-past : (k : ℕ) → i + k < length s → lows k ≡ true → firstHigh i (drop i s) ≡ firstHigh (i + suc k) (drop (i + suc k) s)
+  high-past zero h e = high-later s i (omega arith) (let l = ltb-true (getD s i 0) 128 e in omega arith)
+  high-past (suc k) h e =
+      let l = ltb-true (getD s (i + suc k) 0) 128 (and-right (lows k) (ltb (getD s (i + suc k) 0) 128) e) in
+      let n : i + suc k + 1 ≡ i + suc (suc k) = omega arith in
+      high-past k (omega arith) (and-left (lows k) (ltb (getD s (i + suc k) 0) 128) e) ∙ rw n at (high-later s (i + suc k) h (omega arith))
 
 -- trimming
 module _ (at : ℕ) (xs : List ℕ) where

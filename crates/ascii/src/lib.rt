@@ -142,11 +142,35 @@ pub fn begins_at(text: &[u8], at: usize, word: &[u8], ignore_case: bool) -> bool
     true
 }
 
+// How far a text has no byte above 127, by eights: one branch for eight bytes.
+fn low_eights(text: &[u8]) -> usize
+    ensures { λ r. ⌜ firstHigh r (drop r (now (text .entry))) ≡ firstHigh 0 (now (text .entry)) ⌝ }
+    ensures { λ r. ⌜ r ≤ length (now (text .entry)) ⌝ }
+{
+    let mut i = 0;
+    while i + 8 <= text.len() {
+        let low = (text[i] < 128)
+            & (text[i + 1] < 128)
+            & (text[i + 2] < 128)
+            & (text[i + 3] < 128)
+            & (text[i + 4] < 128)
+            & (text[i + 5] < 128)
+            & (text[i + 6] < 128)
+            & (text[i + 7] < 128);
+        if low {
+            i += 8;
+        } else {
+            return i;
+        }
+    }
+    i
+}
+
 // The first byte above 127.
 pub fn first_high(text: &[u8]) -> Found
     ensures { λ r. ⌜ foundAt r ≡ firstHigh 0 (now (text .entry)) ⌝ }
 {
-    let mut i = 0;
+    let mut i = low_eights(text);
     while i < text.len() {
         if text[i] > 127 {
             return Found::At(i);
