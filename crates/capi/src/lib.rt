@@ -261,14 +261,14 @@ pub extern "C" fn pelzurda_lines(
     ensures { λ r. ⌜ record { count = r; text = now (text .exit); map = now (map .exit); answers = now (answers .exit) }
         ≡ linesCall (languageOf language) (prefixOf prefix) (now (book .entry)) (now (lines .entry)) (now (ends .entry)) (length (now (text .entry))) (length (now (map .entry))) slots (length (now (answers .entry))) ⌝ }
 {
-    let verdict = rulebook::check_book(book);
+    let checked = rulebook::checked(book);
     let spoken = language_of(language);
     let sought = prefix_of(prefix);
     lines::answer_lines(
         spoken,
         sought,
         book,
-        verdict,
+        checked,
         lines,
         ends,
         text,

@@ -1,14 +1,14 @@
-// The answers of many lines under one verdict on their book.
+// The answers of many lines under one check of their book.
 use crate::code_of;
 use lexer::Language;
 use lexer::Prefix;
 use reader::LineAnswer;
 use reader::many;
-use rulebook::BookAnswer;
+use rulebook::CheckedBook;
 ghost use mathlib.Core.Path.{_≡_};
 ghost use Prim.Native.Nat.{_≤_, min};
 ghost use lib.ListN.{length};
-ghost use Rattle.rulebook.specs.Check.{bookCall, bookGives};
+ghost use Rattle.rulebook.specs.Check.{Stands};
 ghost use Rattle.reader.specs.Calls.{lineGives};
 ghost use Rattle.capi.specs.Coded.{codedReading};
 ghost use Rattle.capi.specs.Lines.{endOf, answersFrom};
@@ -50,7 +50,7 @@ pub fn answer_lines(
     language: Language,
     prefix: Prefix,
     book: &[u8],
-    verdict: BookAnswer,
+    checked: CheckedBook,
     lines: &[u8],
     ends: &[usize],
     text: &mut [u8],
@@ -58,7 +58,7 @@ pub fn answer_lines(
     slots: usize,
     answers: &mut [[u64; 5]],
 )
-    requires { ⌜ bookGives verdict ≡ bookCall (now book) ⌝ }
+    requires { ⌜ Stands (now book) checked ⌝ }
     ensures { λ _. ⌜ now (answers .exit)
         ≡ answersFrom language prefix (now (book .entry)) (now (lines .entry)) (length (now (text .entry))) (length (now (map .entry))) slots (length (now (answers .entry))) 0 (now (ends .entry)) ⌝ }
 {
@@ -68,7 +68,7 @@ pub fn answer_lines(
         if i < ends.len() {
             let stop = line_end(lines.len(), at, ends[i]);
             let line = &lines[at..stop];
-            let answer = many::line_answer(language, prefix, book, verdict, line, text, map, slots);
+            let answer = many::line_answer(language, prefix, book, checked, line, text, map, slots);
             let numbers = line_numbers(answer);
             answers[i] = numbers;
             at = stop;

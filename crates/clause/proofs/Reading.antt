@@ -193,14 +193,6 @@ pub start-is : (bk t : List ℕ) (left at : ℕ) (h : Header) → h ≡ headerOf
 unfolding startAt
 start-is bk t left at h e = ap (λ (z : Header). begunAt t z left (skip (z .«ignores_case») t at)) e
 
-no-fault : (o : Option ℕ) → _≡_ {A = Answer (Unit {0})} (given tt) (unlessFault 4 o (given tt)) → o ≡ none
-no-fault none e = refl
-no-fault (some p) e = never _ 4 p tt (sym e)
-
-pub valid-book : (bk : List ℕ) → given tt ≡ bookCall bk → bookFault bk ≡ none
-unfolding bookCall
-valid-book bk e = no-fault (bookFault bk) e
-
 fault-start : (bk t : List ℕ) (left : ℕ) (r : Refusal) (o : Option ℕ) → refusedBy {A = Unit {0}} r ≡ unlessFault 4 o (given tt) → refusedStart left r ≡ startUnder bk t left o
 fault-start bk t left r none e = never _ _ _ tt e
 fault-start bk t left r (some p) e =

@@ -20,9 +20,8 @@ use Rattle.lexer.specs.declared.Skipped.{Skipped}
 use Rattle.lexer.specs.declared.Skipped.the-variants.{Past, OpenAt}
 use Rattle.lexer.specs.Trivia.{skip}
 use Rattle.rulebook.specs.declared.ClauseRule.the-variants.{Bare}
-use Rattle.rulebook.specs.declared.Entries.{Entries}
 use Rattle.rulebook.specs.declared.Header.{Header}
-use Rattle.rulebook.specs.Book.{Book, bookOf, headerOf}
+use Rattle.rulebook.specs.Book.{Book, bookOf, headerOf, noHeader}
 use Rattle.rulebook.specs.Check.{bookFault}
 use Rattle.clause.specs.declared.ClauseRecord.{ClauseRecord}
 use Rattle.clause.specs.declared.SequenceAnswer.{SequenceAnswer}
@@ -162,13 +161,6 @@ pub record Started (book text : List ℕ) (size : ℕ) (s : SequenceState) : Typ
   pub proper : Proper book text s
   pub room : s .left ≤ size
   pub none-yet : s .count ≡ 0
-
--- the header where a book has none
-abbrev pub noEntries : Entries
-noEntries = record { lead = 0; first = 0; count = 0 }
-
-abbrev pub noHeader : Header
-noHeader = record { «ignores_case» = false; «optional_blanks» = false; «default_rule» = Bare; directives = noEntries; clauses = noEntries }
 
 abbrev pub begun : Header → Progress → ℕ → ℕ → ℕ → SequenceState
 begun h p at left clean = record { clause = zeroRecord; header = h; progress = p; at = at; comma = false; left = left; count = 0; clean = clean }

@@ -15,7 +15,6 @@ use refusal::Refusal;
 use refusal::Verdict;
 use rulebook::BookAnswer;
 use rulebook::ClauseRule;
-use rulebook::Entries;
 use rulebook::Header;
 ghost use mathlib.Core.Path.{_≡_};
 ghost use mathlib.Core.Bool.{cond};
@@ -28,25 +27,7 @@ ghost use Rattle.lexer.specs.Trivia.{skip};
 ghost use Rattle.rulebook.specs.Book.{bookOf};
 ghost use Rattle.rulebook.specs.Check.{bookFault};
 ghost use Rattle.clause.specs.Sequence.{separated, isUnsupported};
-ghost use Rattle.clause.specs.Steps.{flagBook, Proper, Ready, noHeader, begun as begunOf, refusedStart, begunAt, startOf, still as stillOf, stopped as stoppedOf, gone as goneOf, behind as behindOf, cleanBehind, onward as onwardOf, nextState, answerOf, keptOf};
-
-// The header where a book has none.
-fn no_header() -> Header
-    ensures { λ r. ⌜ r ≡ noHeader ⌝ }
-{
-    let none = Entries {
-        lead: 0,
-        first: 0,
-        count: 0,
-    };
-    Header {
-        ignores_case: false,
-        optional_blanks: false,
-        default_rule: ClauseRule::Bare,
-        directives: none,
-        clauses: none,
-    }
-}
+ghost use Rattle.clause.specs.Steps.{flagBook, Proper, Ready, begun as begunOf, refusedStart, begunAt, startOf, still as stillOf, stopped as stoppedOf, gone as goneOf, behind as behindOf, cleanBehind, onward as onwardOf, nextState, answerOf, keptOf};
 
 fn begun(header: Header, progress: Progress, at: usize, slots: usize, clean: usize) -> SequenceState
     ensures { λ r. ⌜ r ≡ begunOf header progress at slots clean ⌝ }
@@ -67,7 +48,7 @@ fn begun(header: Header, progress: Progress, at: usize, slots: usize, clean: usi
 pub fn refused_start(slots: usize, refusal: Refusal) -> SequenceState
     ensures { λ r. ⌜ r ≡ refusedStart slots refusal ⌝ }
 {
-    begun(no_header(), Progress::Refused(refusal), 0, slots, 0)
+    begun(rulebook::lookup::no_header(), Progress::Refused(refusal), 0, slots, 0)
 }
 
 // The start at a place of a text, under a book's header, with so many slots.

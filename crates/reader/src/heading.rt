@@ -14,9 +14,8 @@ use lexer::Prefix;
 use lexer::Step;
 use refusal::Refusal;
 use refusal::Verdict;
-use rulebook::BookAnswer;
+use rulebook::CheckedBook;
 use rulebook::Header;
-use rulebook::lookup;
 use source::joining;
 ghost use mathlib.Core.Path.{_≡_};
 ghost use mathlib.Core.Option.{none};
@@ -25,7 +24,7 @@ ghost use Prim.Native.Nat.{_-_, _≤_};
 ghost use lib.ListN.{length, take, replicate};
 ghost use Rattle.refusal.specs.Answer.{andThen, maxLength};
 ghost use Rattle.rulebook.specs.Book.{bookOf, headerOf};
-ghost use Rattle.rulebook.specs.Check.{bookFault, bookCall, bookGives, HasForm};
+ghost use Rattle.rulebook.specs.Check.{bookFault, HasForm, Stands};
 ghost use Rattle.clause.specs.Steps.{keptOf};
 ghost use Rattle.directive.specs.Name.{nameAt, nameGives};
 ghost use Rattle.reader.specs.Line.{opening as openingOf, parsed};
@@ -90,25 +89,26 @@ fn head_of(
     }
 }
 
-// The head of a line under a verdict on its book: refusals 1 to 9, and the joined text with its map at the front of their slots.
+// The head of a line under a book that was checked: refusals 1 to 9, and the joined text with its map at the front of their slots.
 pub fn head_under(
     language: Language,
     prefix: Prefix,
     book: &[u8],
-    verdict: BookAnswer,
+    checked: CheckedBook,
     line: &[u8],
     text: &mut [u8],
     map: &mut [u16],
     slots: usize,
 ) -> Head
-    requires { ⌜ bookGives verdict ≡ bookCall (now book) ⌝ }
+    requires { ⌜ Stands (now book) checked ⌝ }
     ensures { λ r. ⌜ HeadGives language prefix (now (book .entry)) (now (line .entry)) slots (now (text .exit)) (now (map .exit)) r ⌝ }
 {
+    let verdict = checked.verdict;
     let call = checks::check_call(verdict, line, text.len(), map.len());
     if let Verdict::Bad(why) = call {
         return refused_head(why);
     }
-    let header = lookup::read_header(book);
+    let header = checked.header;
     let physical = checks::check_line(language, prefix, header.ignores_case, line);
     if let Verdict::Bad(why) = physical {
         return refused_head(why);
@@ -129,8 +129,8 @@ pub fn read_head(
 ) -> Head
     ensures { λ r. ⌜ HeadGives language prefix (now (book .entry)) (now (line .entry)) slots (now (text .exit)) (now (map .exit)) r ⌝ }
 {
-    let verdict = rulebook::check_book(book);
-    head_under(language, prefix, book, verdict, line, text, map, slots)
+    let checked = rulebook::checked(book);
+    head_under(language, prefix, book, checked, line, text, map, slots)
 }
 
 // The joined text that stands.

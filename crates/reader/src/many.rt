@@ -1,4 +1,4 @@
-// The answer of a line under a verdict on its book: for calls that read many lines under one check.
+// The answer of a line under a book that was checked: for calls that read many lines under one check.
 use crate::LineAnswer;
 use crate::heading;
 use clause::Progress;
@@ -7,11 +7,11 @@ use clause::SequenceState;
 use clause::steps;
 use lexer::Language;
 use lexer::Prefix;
-use rulebook::BookAnswer;
+use rulebook::CheckedBook;
 ghost use mathlib.Core.Path.{_≡_};
 ghost use lib.ListN.{length};
 ghost use Rattle.refusal.specs.Answer.{given, andThen};
-ghost use Rattle.rulebook.specs.Check.{bookCall, bookGives};
+ghost use Rattle.rulebook.specs.Check.{Stands};
 ghost use Rattle.clause.specs.Calls.{counted, sequenceGives};
 ghost use Rattle.clause.specs.Steps.{Started, readOn};
 ghost use Rattle.reader.specs.Calls.{lineCall, lineGives};
@@ -53,17 +53,17 @@ pub fn line_answer(
     language: Language,
     prefix: Prefix,
     book: &[u8],
-    verdict: BookAnswer,
+    checked: CheckedBook,
     line: &[u8],
     text: &mut [u8],
     map: &mut [u16],
     slots: usize,
 ) -> LineAnswer
-    requires { ⌜ bookGives verdict ≡ bookCall (now book) ⌝ }
+    requires { ⌜ Stands (now book) checked ⌝ }
     ensures { λ r. ⌜ lineGives r
         ≡ lineCall language prefix (now (book .entry)) (now (line .entry)) (length (now (text .entry))) (length (now (map .entry))) slots .answer ⌝ }
 {
-    let head = heading::head_under(language, prefix, book, verdict, line, text, map, slots);
+    let head = heading::head_under(language, prefix, book, checked, line, text, map, slots);
     let n = head.length;
     let start = head.start;
     let clauses = count_clauses(book, &text[..n], start, slots);

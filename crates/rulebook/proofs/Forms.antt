@@ -12,13 +12,15 @@ use lib.Dec.{eqb, ltb, leb}
 use borrow.Author.Tests.{ltb-true, ltb-false, leb-true}
 use Rattle.ascii.specs.Ascii.{isWord}
 use Rattle.ascii.proofs.Flags.{by-cases, and-left}
+use Rattle.refusal.specs.declared.Refusal.{Refusal}
+use Rattle.refusal.specs.Answer.{Answer, given, refusedBy, unlessFault}
 use Rattle.rulebook.specs.declared.Expect.{Expect}
 use Rattle.rulebook.specs.declared.Expect.the-variants.{HeaderByte, ClauseCount, DirectiveLength, DirectiveName, Rule, ClauseLength, ClauseName}
 use Rattle.rulebook.specs.declared.Step.{Step}
 use Rattle.rulebook.specs.declared.Step.the-variants.{Next, Bad}
 use Rattle.rulebook.specs.Format.{ruleFor, isKnown, isHeader, isLength, clausesLeft, directivesLeft, whenGood, stepped, endedAt, badFrom}
 use Rattle.rulebook.specs.Book.{nameAt, placeAfter, Laid, LaidIn, directivesOf, clausesOf}
-use Rattle.rulebook.specs.Check.{HasForm, orElse, bookFault}
+use Rattle.rulebook.specs.Check.{HasForm, orElse, bookFault, bookCall}
 use Rattle.rulebook.proofs.Steps.{bad-here, bad-later, bad-end}
 
 pub never : {X : Type 0} (p : ℕ) → _≡_ {A = Option ℕ} (some p) none → X
@@ -149,3 +151,16 @@ module _ (bs : List ℕ) where
       go : (a b : Option ℕ) → orElse a b ≡ none → a ≡ none
       go none b e = refl
       go (some p) b e = e
+
+-- a book is valid exactly if its check says so
+no-fault : (o : Option ℕ) → _≡_ {A = Answer (Unit {0})} (given tt) (unlessFault 4 o (given tt)) → o ≡ none
+no-fault none e = refl
+no-fault (some p) e = let z : _≡_ {A = ℕ} 0 1 = cc in absurd (omega arith)
+
+pub valid-book : (bs : List ℕ) → given tt ≡ bookCall bs → bookFault bs ≡ none
+unfolding bookCall
+valid-book bs e = no-fault (bookFault bs) e
+
+pub not-valid : {X : Type 0} (bs : List ℕ) (r : Refusal) → refusedBy r ≡ bookCall bs → bookFault bs ≡ none → X
+unfolding bookCall
+not-valid bs r e v = let q : refusedBy {A = Unit {0}} r ≡ given tt = rw v at e in let z : _≡_ {A = ℕ} 0 1 = cc in absurd (omega arith)

@@ -1,6 +1,6 @@
 -- What a book says: its flags, its default rule, and its entries in order. "Entries count from 0."
 use Prim.Native.Nat.{ℕ, zero, suc, _+_, _≤_, _/_, _%_}
-use mathlib.Core.Bool.{Bool}
+use mathlib.Core.Bool.{Bool, false}
 use mathlib.Core.List.{List, [], _∷_}
 use lib.ListN.{length, getD}
 use lib.Dec.{eqb}
@@ -101,3 +101,10 @@ bookOf bs = record {
   directives = entriesIn (headerOf bs .directives) bs;
   clauses = entriesIn (headerOf bs .clauses) bs;
 }
+
+-- the header where there is none
+abbrev pub noEntries : Entries
+noEntries = record { lead = 0; first = 0; count = 0 }
+
+abbrev pub noHeader : Header
+noHeader = record { «ignores_case» = false; «optional_blanks» = false; «default_rule» = Bare; directives = noEntries; clauses = noEntries }

@@ -9,9 +9,10 @@ use Rattle.ascii.specs.Text.{sameBy}
 use Rattle.refusal.specs.Answer.{Answer, given, refusedBy, unlessFault}
 use Rattle.rulebook.specs.declared.BookAnswer.{BookAnswer}
 use Rattle.rulebook.specs.declared.BookAnswer.the-variants.{Valid, Refused}
+use Rattle.rulebook.specs.declared.CheckedBook.{CheckedBook}
 use Rattle.rulebook.specs.declared.Expect.the-variants.{HeaderByte}
 use Rattle.rulebook.specs.Format.{badFrom}
-use Rattle.rulebook.specs.Book.{Entry, bookOf}
+use Rattle.rulebook.specs.Book.{Entry, bookOf, headerOf}
 
 -- an entry has the name, by a comparison
 unfoldable pub isNamed : (ℕ → ℕ) → List ℕ → List Entry → Bool
@@ -47,3 +48,8 @@ bookCall bs = unlessFault 4 (bookFault bs) (given tt)
 abbrev pub bookGives : BookAnswer → Answer (Unit {0})
 bookGives Valid = given tt
 bookGives (Refused r) = refusedBy r
+
+-- what a check leaves: the verdict on the book, and the header of a valid one
+pub record Stands (bs : List ℕ) (c : CheckedBook) : Type 0 where
+  pub judged : bookGives (c .verdict) ≡ bookCall bs
+  pub known : bookFault bs ≡ none → c .header ≡ headerOf bs

@@ -8,7 +8,7 @@ use refusal::Reason;
 use refusal::Refusal;
 ghost use mathlib.Core.Path.{_≡_};
 ghost use Rattle.ascii.specs.Text.{foundAt};
-ghost use Rattle.rulebook.specs.Check.{bookFault, bookCall, bookGives};
+ghost use Rattle.rulebook.specs.Check.{bookFault, bookCall, bookGives, Stands};
 
 // What a clause may look like.
 pub enum ClauseRule {
@@ -94,6 +94,12 @@ pub enum BookAnswer {
     Refused(Refusal),
 }
 
+// What the check of a book leaves to all that is read under it: its verdict, and the header if it is valid.
+pub struct CheckedBook {
+    pub verdict: BookAnswer,
+    pub header: Header,
+}
+
 // The first fault of a book: a bad byte, its end if it is cut, else a repeat.
 fn book_fault(book: &[u8]) -> Found
     ensures { λ r. ⌜ foundAt r ≡ bookFault (now (book .entry)) ⌝ }
@@ -115,4 +121,13 @@ pub fn check_book(book: &[u8]) -> BookAnswer
         }),
         Found::Nothing => BookAnswer::Valid,
     }
+}
+
+// The check, and the header read once.
+pub fn checked(book: &[u8]) -> CheckedBook
+    ensures { λ r. ⌜ Stands (now (book .entry)) r ⌝ }
+{
+    let verdict = check_book(book);
+    let header = lookup::header_under(book, verdict);
+    CheckedBook { verdict, header }
 }

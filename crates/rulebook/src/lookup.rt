@@ -1,4 +1,5 @@
 // Reading a book whose form is right: its header, its entries, and names looked up among them.
+use crate::BookAnswer;
 use crate::ClauseEntry;
 use crate::ClauseRule;
 use crate::Entries;
@@ -10,13 +11,14 @@ use crate::format::wide;
 use ascii::Range;
 use ascii::class::fold;
 ghost use mathlib.Core.Path.{_≡_};
+ghost use mathlib.Core.Option.{none};
 ghost use Prim.Native.Nat.{_-_, _≤_};
 ghost use lib.ListN.{length, take, drop};
 ghost use lib.Dec.{eqb};
 ghost use Rattle.ascii.specs.Text.{sameBy, comparing};
 ghost use Rattle.rulebook.specs.Format.{ruleFor};
-ghost use Rattle.rulebook.specs.Book.{ruleSaid, nameAt, placeAfter, Laid, entriesIn, LaidIn, headerOf, bookOf};
-ghost use Rattle.rulebook.specs.Check.{HasForm};
+ghost use Rattle.rulebook.specs.Book.{ruleSaid, nameAt, placeAfter, Laid, entriesIn, LaidIn, headerOf, bookOf, noHeader};
+ghost use Rattle.rulebook.specs.Check.{HasForm, bookFault, bookCall, bookGives};
 ghost use Rattle.rulebook.specs.Lookup.{findFrom, clauseEntry};
 
 // Whether two bytes compare equal. Bytes that differ, and not by the 32 between the cases, need no class.
@@ -120,6 +122,35 @@ pub fn read_header(book: &[u8]) -> Header
         default_rule: rule,
         directives,
         clauses,
+    }
+}
+
+// The header where there is none.
+pub fn no_header() -> Header
+    ensures { λ r. ⌜ r ≡ noHeader ⌝ }
+{
+    let none = Entries {
+        lead: 0,
+        first: 0,
+        count: 0,
+    };
+    Header {
+        ignores_case: false,
+        optional_blanks: false,
+        default_rule: ClauseRule::Bare,
+        directives: none,
+        clauses: none,
+    }
+}
+
+// The header of a book that its verdict finds valid; for another it says nothing.
+pub fn header_under(book: &[u8], verdict: BookAnswer) -> Header
+    requires { ⌜ bookGives verdict ≡ bookCall (now book) ⌝ }
+    ensures { λ r. ⌜ (bookFault (now (book .entry)) ≡ none → r ≡ headerOf (now (book .entry))) ⌝ }
+{
+    match verdict {
+        BookAnswer::Valid => read_header(book),
+        BookAnswer::Refused(_) => no_header(),
     }
 }
 

@@ -13,7 +13,7 @@ use Rattle.capi.proofs.lines.answer_lines.Statement.{statement}
 use Rattle.capi.proofs.lines.answer_lines.Tie as tie
 
 abbrev Inv-loop : tie.InvT-loop
-Inv-loop language prefix book verdict lines ends text₀ map₀ slots answers₀ at₀ i₀ text places answers at i =
+Inv-loop language prefix book checked lines ends text₀ map₀ slots answers₀ at₀ i₀ text places answers at i =
     (at ≤ length lines)
     × (i ≤ length answers₀)
     × (length text ≡ length text₀)
@@ -23,7 +23,7 @@ Inv-loop language prefix book verdict lines ends text₀ map₀ slots answers₀
     ≡ answersFrom language prefix book lines (length text₀) (length map₀) slots (length answers₀) 0 ends)
 
 abbrev μ-loop : tie.MeasureT-loop
-μ-loop language prefix book verdict lines ends text₀ map₀ slots answers₀ at₀ i₀ text places answers at i = length answers₀ - i
+μ-loop language prefix book checked lines ends text₀ map₀ slots answers₀ at₀ i₀ text places answers at i = length answers₀ - i
 
 loop-again : tie.Need-loop-again Inv-loop μ-loop
 loop-again c =
@@ -77,7 +77,7 @@ answer-lines-spec =
     (λ c. omega (arith, c .line-end .ensures .2))
     (λ c κs. c .before .before .before .before .before .before .before .before .before .before .before .before .before .pre)
     (λ c κs. search needs)
-    (λ c. omega arith)
+    (λ c. omega (arith, c .before .before .before .before .before .before .before .before .before .before .before .before .loop-test .taken, c .before .before .before .before .before .before .before .before .before .before .before .before .before .loop .inv .4, c .before .before .before .before .before .before .before .before .before .before .before .before .before .before .before .before .before .before .before .good .1 .1 .1 .1 .1 .1 .1 .1 .1 .0 .0, c .before .before .before .before .before .before .before .before .before .before .before .before .before .before .before .before .before .before .before .good .1 .1 .1 .1 .1 .1 .1 .1 .1 .0 .1))
     (λ c. omega arith)
     (λ c. omega arith)
     (λ c. omega arith)

@@ -3,9 +3,9 @@
 use mathlib.Core.Path.{sym, ap, _∙_}
 use borrow.Author.Needs.{needs}
 use Rattle.rulebook.specs.Check.{bookGives}
-use Rattle.rulebook.proofs.Forms.{valid-form}
+use Rattle.rulebook.proofs.Forms.{valid-form, valid-book}
 use Rattle.clause.specs.Steps.{startOf}
-use Rattle.clause.proofs.Reading.{start-is, valid-book, wrong-book}
+use Rattle.clause.proofs.Reading.{start-is, wrong-book}
 use Rattle.clause.proofs.steps.start.Statement.{statement}
 use Rattle.clause.proofs.steps.start.Tie as tie
 

@@ -7,9 +7,8 @@ use lib.ListN.{length}
 use lib.Seq.{length-take-le}
 use borrow.Author.Needs.{needs}
 use Rattle.refusal.specs.Answer.{given, maxLength}
-use Rattle.rulebook.specs.Book.{bookOf}
+use Rattle.rulebook.specs.Book.{bookOf, headerOf}
 use Rattle.rulebook.specs.Check.{bookCall}
-use Rattle.rulebook.proofs.Forms.{valid-form}
 use Rattle.reader.specs.Steps.{checkOf, callCheck, lineCheck}
 use Rattle.reader.proofs.Checking.{Fit, call-fine}
 use Rattle.reader.proofs.Headed.{by-header, line-call, line-physical, line-read, gives-refused, gives-joined}
@@ -18,16 +17,20 @@ use Rattle.reader.proofs.heading.head_under.Tie as tie
 
 -- once the call's checks have found nothing
 passed : (c : tie.After-enum-told) → let a = c .before .before .before .before .before .before .before .args in callCheck (bookCall (a .book .now)) (a .line .now) (length (a .text .now)) (length (a .map .now)) ≡ given tt
-passed c = rw (c .before .before .before .before .before .before .before .pre) at (sym (c .before .before .check-call .ensures) ∙ ap checkOf (c .enum-told .given .1))
+passed c = rw (c .before .before .before .before .before .before .before .pre .judged) at (sym (c .before .before .check-call .ensures) ∙ ap checkOf (c .enum-told .given .1))
 
 fits : (c : tie.After-enum-told) → let a = c .before .before .before .before .before .before .before .args in Fit (a .book .now) (a .line .now) (length (a .text .now)) (length (a .map .now))
 fits c = call-fine _ _ _ _ (passed c)
+
+-- and so the header is known
+known : (c : tie.After-header) → let a = c .before .before .before .before .before .before .before .before .args in a .checked .header ≡ headerOf (a .book .now)
+known c = c .before .before .before .before .before .before .before .before .pre .known (fits (c .before) .valid)
 
 -- once the physical lines are valid too
 physical : (c : tie.After-enum-told2) → let a = c .before .before .before .before .before .before .before .before .before .before .before .args in lineCheck (a .language) (a .prefix) (bookOf (a .book .now) .ignoresCase) (a .line .now) ≡ given tt
 physical c =
     let k : tie.After-check-line = c .before .before in
-    sym (by-header _ _ _ _ 0 0 0 _ (k .before .read-header .ensures)) ∙ sym (k .check-line .ensures) ∙ ap checkOf (c .enum-told2 .given .1)
+    sym (by-header _ _ _ _ 0 0 0 _ (known (k .before))) ∙ sym (k .check-line .ensures) ∙ ap checkOf (c .enum-told2 .given .1)
 
 -- what joining has written
 sizes : (c : tie.After-join-into) → let r = c .join-into in
@@ -40,7 +43,7 @@ returns c =
     let why = k .before .call .given .0 .0 in
     rw (c .refused-head .ensures)
     (gives-refused _ _ _ _ _ _ _ why (line-call _ _ _ _ _ _ _ why
-    (rw (c .before .before .before .before .before .before .before .before .before .pre) at (sym (k .before .before .before .check-call .ensures) ∙ ap checkOf (k .before .call .given .1)))))
+    (rw (c .before .before .before .before .before .before .before .before .before .pre .judged) at (sym (k .before .before .before .check-call .ensures) ∙ ap checkOf (k .before .call .given .1)))))
 
 returns-2 : tie.Need-returns-2
 returns-2 c =
@@ -49,7 +52,7 @@ returns-2 c =
     let why = k .before .physical .given .0 .0 in
     rw (c .refused-head2 .ensures)
     (gives-refused _ _ _ _ _ _ _ why (line-physical _ _ _ _ _ _ _ why (passed (v .before .before))
-    (sym (by-header _ _ _ _ 0 0 0 _ (v .before .read-header .ensures)) ∙ sym (v .check-line .ensures) ∙ ap checkOf (k .before .physical .given .1))))
+    (sym (by-header _ _ _ _ 0 0 0 _ (known (v .before))) ∙ sym (v .check-line .ensures) ∙ ap checkOf (k .before .physical .given .1))))
 
 returns-3 : tie.Need-returns-3
 returns-3 c =
@@ -70,7 +73,6 @@ head-under-spec =
     (λ c κs. search needs)
     returns
     (λ c. search needs)
-    (λ c κs. valid-form _ (fits c .valid))
     (λ c κs. search needs)
     (λ c. search needs)
     (λ c κs. search needs)
@@ -80,7 +82,7 @@ head-under-spec =
     (λ c. sizes (c .before .before .before .before) .1)
     (λ c. sym (length-take-le _ _ (sizes (c .before .before .before .before .before) .1)))
     (λ c κs. let k : tie.After-join-into = c .before .before .before .before .before in
-    (fits (k .before .before .before .before .before .before .before) .valid, (k .before .before .before .before .before .before .read-header .ensures, rw (length-take-le _ _ (sizes k .1)) (sizes k .0))))
+    (fits (k .before .before .before .before .before .before .before) .valid, (known (k .before .before .before .before .before .before), rw (length-take-le _ _ (sizes k .1)) (sizes k .0))))
     (λ c. search needs)
     (λ c. search needs)
     returns-3)

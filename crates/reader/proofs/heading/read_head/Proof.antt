@@ -1,4 +1,4 @@
--- `reader::heading::read_head` meets its contract: the verdict is that of the book check.
+-- `reader::heading::read_head` meets its contract: the book is checked.
 -- Assumes nothing.
 use borrow.Author.Needs.{needs}
 use Rattle.reader.proofs.heading.read_head.Statement.{statement}
@@ -9,7 +9,7 @@ read-head-spec =
     tie.close
     (tie.spec
     (λ c κs. search needs)
-    (λ c κs. c .before .before .check-book .ensures)
+    (λ c κs. c .before .before .checked .ensures)
     (λ c. search needs)
     (λ c. search needs)
     (λ c. c .before .before .before .before .head-under .ensures))
