@@ -1,4 +1,5 @@
 pub mod Kept
+pub mod Staying
 pub mod Judging
 pub mod Phase2
 pub mod Checking

@@ -1,5 +1,6 @@
 pub mod Validation
 pub mod Joining
+pub mod Staying
 pub mod Calls
 pub mod Verdicts
 pub mod Laws

@@ -1,4 +1,5 @@
 // Joining: each continuation goes, every other byte is kept with its physical place.
+use crate::runs;
 use lexer::Language;
 use lexer::continuation;
 ghost use mathlib.Core.Path.{_≡_};
@@ -73,9 +74,9 @@ pub fn copy_into(content: &[u8], copy: &mut [u8]) -> usize
     while i < content.len() {
         let gone = any_cut_at(content, i);
         if gone == 0 {
-            copy[k] = content[i];
-            k += 1;
-            i += 1;
+            let end = runs::plain_end(content, i + 1);
+            k = runs::copy_part(content, i, end, copy, k);
+            i = end;
         } else {
             i += gone;
         }

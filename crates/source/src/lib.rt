@@ -1,5 +1,6 @@
 // One logical line of several physical ones: validation, joining with its byte map, map-back, content copy.
 pub mod joining;
+mod runs;
 pub mod validation;
 
 use ascii::Found;
