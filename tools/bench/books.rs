@@ -1,16 +1,18 @@
 //! The book check, which the Rust has not: beside it stands one pass over the same bytes that sums them. And the lookup of a clause's name.
 
+use crate::sequences::{openmp_book, small_book};
 use crate::{Report, ours};
 use std::hint::black_box;
 
 pub fn rows(report: &Report, folder: &str) {
     report.heading("book check beside a sum of the same bytes", "sum ns");
+    row(report, "book small, 3 and 10 names", &small_book());
     row(report, "book typical, 40 and 60 names", &book(40, 60, typical_name));
     row(report, "book full, 255 and 255 names", &book(255, 255, typical_name));
     row(report, "book full, names of one length", &book(255, 255, |i| format!("directive_name_{i:03}")));
     row(report, "book full, names of 64 differ first", &book(255, 255, |i| format!("{i:03}{}", "x".repeat(61))));
     row(report, "book full, names of 64 differ in the middle", &book(255, 255, |i| format!("{}{i:03}{}", "x".repeat(30), "x".repeat(31))));
-    let openmp = std::fs::read(format!("{folder}/openmp.drb")).expect("books/openmp.drb");
+    let openmp = openmp_book(folder);
     row(report, "book openmp.drb", &openmp);
     report.heading("500 clauses with a book's last name beside its first; as bytes count the entries passed over", "first ns");
     lookup(report, "lookup typical, 60 names", &book(40, 60, typical_name));

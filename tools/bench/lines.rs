@@ -4,7 +4,7 @@ use crate::answer::{Lent, head};
 use crate::book::{Book, Shelf};
 use crate::lexer::{Language, LogicalSource, lex_dialect_keyword, lex_pragma, skip_space_and_comments, skip_space1_and_comments};
 use crate::request::{Joining, Request};
-use crate::sequences::{TYPICAL, listed, openmp_book, small_book};
+use crate::sequences::{TYPICAL, listed, openmp_book, small_book, typical_book};
 use crate::{Report, calls, ours};
 use std::hint::black_box;
 
@@ -15,7 +15,7 @@ const OPENING: &str = "#pragma omp parallel for";
 const MANY: usize = 100;
 
 pub fn rows(report: &Report, folder: &str) {
-    let books = [("small book", small_book()), ("openmp.drb", openmp_book(folder))];
+    let books = [("small book", small_book()), ("typical book", typical_book(folder)), ("openmp.drb", openmp_book(folder))];
     report.heading("whole line against the Rust's steps, one line a call, registries built once", "Rust ns");
     for (title, book) in &books {
         for bytes in SIZES {

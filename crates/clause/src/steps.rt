@@ -48,7 +48,13 @@ fn begun(header: Header, progress: Progress, at: usize, slots: usize, clean: usi
 pub fn refused_start(slots: usize, refusal: Refusal) -> SequenceState
     ensures { λ r. ⌜ r ≡ refusedStart slots refusal ⌝ }
 {
-    begun(rulebook::lookup::no_header(), Progress::Refused(refusal), 0, slots, 0)
+    begun(
+        rulebook::lookup::no_header(),
+        Progress::Refused(refusal),
+        0,
+        slots,
+        0,
+    )
 }
 
 // The start at a place of a text, under a book's header, with so many slots.
