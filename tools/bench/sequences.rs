@@ -1,7 +1,8 @@
-//! The clause sequence against `parse_sequence` of a registry that is built once from the same book.
+//! The clause sequence against `parse_sequence` of a registry with the same names and rules, built once or in the call.
 
 use crate::answer::{Lent, Record, head};
-use crate::book::{Book, Shelf};
+use crate::book::{Shelf, rule_of};
+use crate::parser::clause::{ClauseRegistry, ClauseRegistryBuilder};
 use crate::request::Request;
 use crate::{Report, calls, ours};
 use std::hint::black_box;
@@ -37,19 +38,26 @@ pub fn typical_book(folder: &str) -> Vec<u8> {
     let whole = openmp_book(folder);
     let mut book = whole[..7].to_vec();
     book.extend_from_slice(&[40, 60]);
-    let mut at = 9;
-    for (count, lead, size) in [(whole[7], 0, 40), (whole[8], 1, 60)] {
-        let entries: Vec<&[u8]> = (0..count).map(|_| entry(&whole, &mut at, lead)).collect();
-        book.extend(spread(&entries, lead, size).concat());
+    for (lead, size) in [(0, 40), (1, 60)] {
+        book.extend(spread(&entries(&whole, lead), lead, size).concat());
     }
     book
 }
 
-/// The entry at a place of a book, which moves behind it.
-fn entry<'a>(book: &'a [u8], at: &mut usize, lead: usize) -> &'a [u8] {
-    let start = *at;
-    *at += lead + 1 + usize::from(book[start + lead]);
-    &book[start..*at]
+/// The entries of a book's directives, where no byte leads, or of its clauses, where one does.
+fn entries(book: &[u8], lead: usize) -> Vec<&[u8]> {
+    let mut at = 9;
+    let mut list = Vec::new();
+    for (kind, count) in [(0, book[7]), (1, book[8])] {
+        for _ in 0..count {
+            let start = at;
+            at += kind + 1 + usize::from(book[start + kind]);
+            if kind == lead {
+                list.push(&book[start..at]);
+            }
+        }
+    }
+    list
 }
 
 /// So many of the entries in their order: those whose names are used, and others at even distances.
@@ -73,6 +81,12 @@ pub fn rows(report: &Report, folder: &str) {
         }
         for count in [500, 2_000, 4_000] {
             row(report, &format!("sequence {count} short clauses, {title}"), &book, &clauses(&SHORT, count, ""), count);
+        }
+    }
+    report.heading("clause sequence against parse_sequence, registry built from the book's names in the call", "Rust ns");
+    for (title, book) in [("small book", small_book()), ("typical book", typical_book(folder)), ("openmp.drb", openmp_book(folder))] {
+        for count in [1, 10, 500] {
+            row_from_names(report, &format!("sequence {count}, registry built, {title}"), &book, &clauses(&TYPICAL, count, " "), count);
         }
     }
 }
@@ -103,25 +117,64 @@ fn record_of(record: &ours::ClauseRecord) -> Record {
     }
 }
 
+/// What is lent for a sequence: as many slots as its clauses take, since clearing more would be measured otherwise.
+struct Slots {
+    records: Vec<ours::ClauseRecord>,
+    rest: [u64; 1],
+}
+
+/// The slots, once our call has answered as the oracle does.
+fn agreed(name: &str, shelf: &mut Shelf, book: &[u8], text: &str, count: usize) -> Slots {
+    let request = Request::Sequence { slots: count, book: book.to_vec(), text: text.as_bytes().to_vec() };
+    let expected = calls::answer(&request, shelf).expect("an oracle that agrees with itself");
+    let mut lent = Slots { records: vec![ours::ClauseRecord::BEFORE; count], rest: [u64::MAX] };
+    let answer = ours::sequence(book, text.as_bytes(), &mut lent.records, &mut lent.rest);
+    let answered = format!("{} : {}", head(&Ok(vec![answer as usize, lent.rest[0] as usize])), listed(&lent.records));
+    assert_eq!(answered, expected, "{name}");
+    assert_eq!((answer as usize, lent.rest[0] as usize), (count, text.len()), "{name}");
+    lent
+}
+
 fn row(report: &Report, name: &str, book: &[u8], text: &str, count: usize) {
     if !report.wants(name) {
         return;
     }
     let mut shelf = Shelf::default();
-    let request = Request::Sequence { slots: count, book: book.to_vec(), text: text.as_bytes().to_vec() };
-    let expected = calls::answer(&request, &mut shelf).expect("an oracle that agrees with itself");
-    // As many slots as the clauses take: clearing slots that nobody asked for would be measured otherwise.
-    let mut records = vec![ours::ClauseRecord::BEFORE; count];
-    let mut rest = [u64::MAX];
-    let answer = ours::sequence(book, text.as_bytes(), &mut records, &mut rest);
-    let answered = format!("{} : {}", head(&Ok(vec![answer as usize, rest[0] as usize])), listed(&records));
-    assert_eq!(answered, expected, "{name}");
-    assert_eq!((answer as usize, rest[0] as usize), (count, text.len()), "{name}");
-    let registry: &Book = shelf.book(book).expect("a valid book");
+    let mut lent = agreed(name, &mut shelf, book, text, count);
+    let registry = &shelf.book(book).expect("a valid book").clause_registry;
     report.row(
         name,
         text.len(),
-        || ours::sequence(book, black_box(text.as_bytes()), &mut records, &mut rest) as usize,
-        || registry.clause_registry.parse_sequence(black_box(text)).map_or(0, |(_, clauses)| black_box(clauses).len()),
+        || ours::sequence(book, black_box(text.as_bytes()), &mut lent.records, &mut lent.rest) as usize,
+        || parsed(registry, black_box(text)),
     );
+}
+
+/// The same against the Rust of a caller who has the book's names and rules, and no registry yet.
+fn row_from_names(report: &Report, name: &str, book: &[u8], text: &str, count: usize) {
+    if !report.wants(name) {
+        return;
+    }
+    let mut shelf = Shelf::default();
+    let mut lent = agreed(name, &mut shelf, book, text, count);
+    let names = &shelf.book(book).expect("a valid book").clauses;
+    let rules: Vec<u8> = entries(book, 1).iter().map(|entry| entry[0]).collect();
+    report.row(
+        name,
+        text.len(),
+        || ours::sequence(black_box(book), black_box(text.as_bytes()), &mut lent.records, &mut lent.rest) as usize,
+        || parsed(&registry_of(book[6], black_box(names), &rules), black_box(text)),
+    );
+}
+
+fn registry_of(default: u8, names: &[&'static str], rules: &[u8]) -> ClauseRegistry {
+    let mut registry = ClauseRegistryBuilder::new().with_default_rule(rule_of(default));
+    for (name, rule) in names.iter().zip(rules) {
+        registry.register_with_rule_mut(name, rule_of(*rule));
+    }
+    registry.build()
+}
+
+fn parsed(registry: &ClauseRegistry, text: &str) -> usize {
+    registry.parse_sequence(text).map_or(0, |(_, clauses)| black_box(clauses).len())
 }

@@ -163,7 +163,7 @@ impl Book {
     }
 }
 
-fn rule_of(byte: u8) -> ClauseRule {
+pub fn rule_of(byte: u8) -> ClauseRule {
     match byte {
         0 => ClauseRule::Bare,
         1 => ClauseRule::Parenthesized,
