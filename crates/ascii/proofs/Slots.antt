@@ -1,12 +1,12 @@
 -- A slice that is filled from the front: its first k slots are written, and `take k slots ++ what is still to come` is the whole.
--- `pushed` is a store at k, `complete` the end, `zeros-more` and `zeros-none` zeros to come. Assumes nothing.
+-- `pushed` is a store at k, `complete` the end; `zeros-more` and `zeros-none` are zeros to come, `part-next` and `part-none` a part of a list. Assumes nothing.
 use mathlib.Core.Path.{_≡_, refl}
 use mathlib.Core.List.{List, [], _∷_, _++_, append-assoc, append-nil}
 use Prim.Native.Nat.{ℕ, suc, _+_, _-_, _<_, _≤_}
 use native.Mathlib.Numerals.{add-one}
 use native.Mathlib.Omega.{arith}
-use lib.ListN.{length, take, set, replicate}
-use lib.Seq.{take-suc-set, take-all, length-take-le}
+use lib.ListN.{length, take, drop, getD, set, replicate}
+use lib.Seq.{take-suc-set, take-all, length-take-le, drop-cons}
 use Rattle.ascii.specs.Text.{padded}
 
 module _ {A : Type 0} where
@@ -30,3 +30,15 @@ module _ {A : Type 0} where
   pub padded-take : (z : A) (xs : List A) (n : ℕ) {ys : List A} → n ≤ length xs → take n xs ≡ ys
       → take n xs ++ replicate (length xs - n) z ≡ padded z (length xs) ys
   padded-take z xs n h e = rw (← e, length-take-le)
+
+  -- a part of a list, one by one
+  pub part-next : (z : A) (s : List A) (i end : ℕ) → i < end → end ≤ length s → take (end - i) (drop i s) ≡ getD s i z ∷ take (end - (i + 1)) (drop (i + 1) s)
+  part-next z s i end h g =
+      let n : end - i ≡ suc (end - (i + 1)) = omega arith in
+      let l : i < length s = omega arith in
+      rw (n, drop-cons s i z, add-one i) refl
+
+  pub part-none : (s : List A) (i end : ℕ) → end ≤ i → take (end - i) (drop i s) ≡ []
+  part-none s i end h =
+      let n : end - i ≡ 0 = omega arith in
+      rw n refl

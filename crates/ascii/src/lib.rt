@@ -2,7 +2,7 @@
 pub mod class;
 
 ghost use mathlib.Core.Path.{_≡_};
-ghost use mathlib.Core.List.{reverse};
+ghost use mathlib.Core.List.{reverse, _++_};
 ghost use Prim.Native.Nat.{_+_, _-_, _≤_};
 ghost use lib.ListN.{length, take, drop, getD};
 ghost use Rattle.ascii.specs.Ascii.{isTrimmed};
@@ -178,4 +178,20 @@ pub fn first_high(text: &[u8]) -> Found
         i += 1;
     }
     Found::Nothing
+}
+
+// Copies a part of a text to a place of a buffer; the place behind it is returned.
+pub fn copy_part(text: &[u8], start: usize, end: usize, buffer: &mut [u8], at: usize) -> usize
+    requires { ⌜ (start ≤ end) × ((end ≤ length (now text)) × (at + (end - start) ≤ length (now buffer))) ⌝ }
+    ensures { λ r. ⌜ r ≡ at + (end - start) ⌝ }
+    ensures { λ r. ⌜ take r (now (buffer .exit)) ≡ take at (now (buffer .entry)) ++ take (end - start) (drop start (now (text .entry))) ⌝ }
+{
+    let mut i = start;
+    let mut k = at;
+    while i < end {
+        buffer[k] = text[i];
+        i += 1;
+        k += 1;
+    }
+    k
 }

@@ -4,7 +4,7 @@ use mathlib.Core.List.{List, [], _∷_}
 use lib.ListN.{length, take, drop, replicate}
 use Rattle.lexer.specs.declared.Language.{Language}
 use Rattle.lexer.specs.declared.Prefix.{Prefix}
-use Rattle.reader.specs.Calls.{lineCall}
+use Rattle.reader.specs.Calls.{lineCall, lineWithin}
 use Rattle.capi.specs.Coded.{codedReading}
 
 -- where a line ends that starts at a place: no earlier, and not behind the bytes
@@ -21,7 +21,7 @@ module _ (l : Language) (p : Prefix) (book lines : List ℕ) (textSlots mapSlots
 
   -- so many answers, of lines that start where the one before has ended; a slot with no line holds zeros
   unfoldable pub answersFrom : ℕ → ℕ → List ℕ → List (List ℕ)
-  unfolding lineCall
+  unfolding lineWithin
   answersFrom zero at ends = []
   answersFrom (suc n) at [] = noLine ∷ answersFrom n at []
   answersFrom (suc n) at (end ∷ ends) = answerBetween at (endOf (length lines) at end) ∷ answersFrom n (endOf (length lines) at end) ends

@@ -14,15 +14,6 @@ use Rattle.directive.specs.Name.{extended}
 use Rattle.directive.specs.Steps.{fitting, keptIn}
 
 module _ (s : List ℕ) (i end : ℕ) where
-  pub part-more : i < end → end ≤ length s → take (end - i) (drop i s) ≡ getD s i 0 ∷ take (end - (i + 1)) (drop (i + 1) s)
-  part-more h g =
-      let e : end - i ≡ suc (end - (i + 1)) = omega arith in
-      let l : i < length s = omega arith in
-      rw (e, drop-cons s i 0 l, add-one)
-
-  pub part-none : end ≤ i → take (end - i) (drop i s) ≡ []
-  part-none h = let e : end - i ≡ 0 = omega arith in rw e
-
   pub part-length : i ≤ end → end ≤ length s → length (take (end - i) (drop i s)) ≡ end - i
   part-length h g = simp (length-take, length-drop) (omega arith)
 

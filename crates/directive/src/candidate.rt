@@ -7,21 +7,6 @@ ghost use lib.ListN.{length, take, drop};
 ghost use Rattle.directive.specs.Name.{extended};
 ghost use Rattle.directive.specs.Steps.{fitting, keptIn};
 
-// Copies a part of a text into a buffer, from a place of the buffer on.
-fn copy_part(buffer: &mut [u8], from: usize, text: &[u8], start: usize, end: usize)
-    requires { ⌜ (start ≤ end) × (end ≤ length (now text)) ⌝ }
-    requires { ⌜ from + (end - start) ≤ length (now buffer) ⌝ }
-    ensures { λ _. ⌜ take (from + (end - start)) (now (buffer .exit)) ≡ take from (now (buffer .entry)) ++ take (end - start) (drop start (now (text .entry))) ⌝ }
-{
-    let mut i = start;
-    let mut k = from;
-    while i < end {
-        buffer[k] = text[i];
-        i += 1;
-        k += 1;
-    }
-}
-
 // Puts a word behind the first bytes of a buffer; the length of both, or 513 if they do not fit.
 fn put_behind(buffer: &mut [u8], from: usize, text: &[u8], start: usize, end: usize) -> usize
     requires { ⌜ (length (now buffer) ≡ 512) × (from ≤ 512) ⌝ }
@@ -31,8 +16,7 @@ fn put_behind(buffer: &mut [u8], from: usize, text: &[u8], start: usize, end: us
     if end - start > 512 - from {
         return 513;
     }
-    copy_part(buffer, from, text, start, end);
-    from + (end - start)
+    ascii::copy_part(text, start, end, buffer, from)
 }
 
 // The candidate with a word more, behind a blank if it is not the first; its length, or 513 if the candidate does not fit.

@@ -22,7 +22,7 @@ use Rattle.clause.specs.Sequence.{sequenceFrom, sequenceAt}
 use Rattle.directive.specs.Name.{entryOf, headFrom, isHead, mayGrow, nameFrom, nameAt}
 use Rattle.reader.specs.declared.Reading.{Reading}
 use Rattle.reader.specs.Line.{openingC, parsed, lineAnswer}
-use Rattle.reader.specs.Calls.{LineCall, lineCall}
+use Rattle.reader.specs.Calls.{LineCall, lineCall, lineWithin}
 use Rattle.reader.specs.Examples.{strict, withIf}
 use Rattle.reader.proofs.Appended.{appended-names-keep-readings}
 
@@ -49,7 +49,7 @@ abbrev reading : Reading
 reading = record { entry = 0; «name_start» = 12; «name_end» = 20; count = 1; rest = 28 }
 
 read : line strict .answer ≡ given reading
-unfolding leading upTo sameBy begins firstHigh breakC triviaC skipFrom skip checkLine faultFrom fault keptFrom joinedText badFrom entriesFrom placeAfter clausesOf headerOf bookOf isNamed repeatFrom bookFault entryFrom ruleAt clauseAt sequenceFrom sequenceAt entryOf headFrom isHead mayGrow nameFrom nameAt openingC parsed lineAnswer lineCall
+unfolding leading upTo sameBy begins firstHigh breakC triviaC skipFrom skip checkLine faultFrom fault keptFrom joinedText badFrom entriesFrom placeAfter clausesOf headerOf bookOf isNamed repeatFrom bookFault entryFrom ruleAt clauseAt sequenceFrom sequenceAt entryOf headFrom isHead mayGrow nameFrom nameAt openingC parsed lineAnswer lineWithin
 read = refl
 
 pub alike : line withIf ≡ line strict

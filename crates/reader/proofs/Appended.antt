@@ -21,7 +21,7 @@ use Rattle.clause.proofs.Appended.{sequenceAt-kept}
 use Rattle.directive.specs.Name.{nameAt}
 use Rattle.directive.proofs.SameNames.{names-go-by-directives}
 use Rattle.reader.specs.Line.{opening, parsed, suits, lineAnswer}
-use Rattle.reader.specs.Calls.{readingOf, lineCall}
+use Rattle.reader.specs.Calls.{readingOf, lineCall, lineWithin}
 use Rattle.reader.specs.Laws.{AppendedNamesKeepReadings}
 
 suits-same : (l : Language) (b d : Book) → b .ignoresCase ≡ d .ignoresCase → suits l b ≡ suits l d
@@ -51,7 +51,7 @@ lineAnswer-kept l p short long line textSlots mapSlots recordSlots fs fl a stric
     (λ r e. e))))
 
 pub appended-names-keep-readings : AppendedNamesKeepReadings
-unfolding lineCall
+unfolding lineWithin
 appended-names-keep-readings l p short long line textSlots mapSlots recordSlots reading fs fl a strict h =
     let x = lineAnswer l p short line textSlots mapSlots recordSlots in
     let y = lineAnswer l p long line textSlots mapSlots recordSlots in

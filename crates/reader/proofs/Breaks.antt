@@ -16,7 +16,7 @@ use Rattle.source.proofs.BreakLaw.{woven-text, woven-broken, breaks-keep-text}
 use Rattle.rulebook.specs.Book.{bookOf}
 use Rattle.rulebook.specs.Check.{bookFault}
 use Rattle.reader.specs.Line.{parsed, suits, lineAnswer}
-use Rattle.reader.specs.Calls.{lineCall}
+use Rattle.reader.specs.Calls.{lineCall, lineWithin}
 use Rattle.reader.specs.Laws.{BreaksChangeNothing}
 
 -- what the whole line makes of a woven line that passes rows 1 to 3
@@ -36,7 +36,7 @@ woven-answer p book textSlots mapSlots recordSlots {t} {xs} w short-enough text-
     )
 
 pub breaks-change-nothing : BreaksChangeNothing
-unfolding lineCall
+unfolding lineWithin
 breaks-change-nothing t plain gap p book textSlots mapSlots recordSlots a b d =
     let w = woven-broken t gap plain in
     let v = woven-text t plain in

@@ -22,7 +22,7 @@ use Rattle.clause.proofs.Sequencing.{settles}
 use Rattle.reader.specs.declared.Head.{Head}
 use Rattle.reader.specs.declared.LineAnswer.{LineAnswer}
 use Rattle.reader.specs.Line.{Parsed, lineAnswer}
-use Rattle.reader.specs.Calls.{readingOf, lineCall, lineGives}
+use Rattle.reader.specs.Calls.{readingOf, lineCall, lineGives, lineWithin}
 use Rattle.reader.specs.Steps.{HeadGives, answered, isGoing}
 use Rattle.reader.proofs.Settled.{answer-given}
 
@@ -74,6 +74,6 @@ module _ (bk t : List ℕ) (s₀ : SequenceState) (n : ℕ) (started : Started b
 pub line-answers : (l : Language) (p : Prefix) (bk line : List ℕ) (room : ℕ) (text map : List ℕ) (h : Head) (a : SequenceAnswer) (r : LineAnswer) → HeadGives l p bk line room text map h
     → sequenceGives a ≡ andThen (readOn bk (take (h .length) text) (h .start)) (λ s. given (counted s)) → r ≡ answered (h .name) a
     → lineGives r ≡ lineCall l p bk line (length text) (length map) room .answer
-unfolding lineCall
+unfolding lineWithin
 line-answers l p bk line room text map h a r g s f =
     ap lineGives f ∙ answer-given (h .name) a (readOn bk (take (h .length) text) (h .start)) s ∙ ap (λ (y : Answer Parsed). andThen y (λ q. given (readingOf q))) (g .reads)

@@ -34,7 +34,7 @@ use Rattle.directive.specs.Name.{nameAt}
 use Rattle.directive.proofs.Ends.{nameAt-end}
 use Rattle.reader.specs.declared.Reading.{Reading}
 use Rattle.reader.specs.Line.{openingC, openingF, opening, Parsed, parsed, suits, lineAnswer}
-use Rattle.reader.specs.Calls.{readingOf, lineCall}
+use Rattle.reader.specs.Calls.{readingOf, lineCall, lineWithin}
 use Rattle.reader.specs.Laws.{StrictReadingsAreWhole}
 
 -- the opening words end within the text: the trivia after them has a byte
@@ -105,7 +105,7 @@ call-whole book text size reading (given r) w h =
 call-whole book text size reading (refused n p) w h = never _ n p reading h
 
 pub strict-readings-are-whole : StrictReadingsAreWhole
-unfolding lineCall
+unfolding lineWithin
 strict-readings-are-whole l p book line textSlots mapSlots recordSlots reading strict h =
     call-whole (bookOf book) (joinedText l line) recordSlots reading (lineAnswer l p book line textSlots mapSlots recordSlots)
     (line-whole l p book line textSlots mapSlots recordSlots strict) h

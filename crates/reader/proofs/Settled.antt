@@ -23,8 +23,8 @@ use Rattle.directive.specs.declared.DirectiveName.{DirectiveName}
 use Rattle.reader.specs.declared.Head.{Head}
 use Rattle.reader.specs.declared.LineAnswer.{LineAnswer}
 use Rattle.reader.specs.Line.{Parsed, lineAnswer}
-use Rattle.reader.specs.Calls.{readingOf, lineGives}
-use Rattle.reader.specs.Steps.{behind, answered, HeadGives, lineWithin}
+use Rattle.reader.specs.Calls.{readingOf, lineGives, lineWithin}
+use Rattle.reader.specs.Steps.{behind, answered, HeadGives}
 
 -- the answer behind a name
 pub answer-given : (name : DirectiveName) (a : SequenceAnswer) (x : Answer Sequence) → sequenceGives a ≡ andThen x (λ s. given (counted s))

@@ -30,16 +30,21 @@ pub record LineCall : Type 0 where
   pub map : List ℕ
   pub records : List ClauseRecord
 
-unfoldable pub lineCall : Language → Prefix → List ℕ → List ℕ → ℕ → ℕ → ℕ → LineCall
+-- the whole line into so many of the record slots that are lent
+unfoldable pub lineWithin : Language → Prefix → List ℕ → List ℕ → ℕ → ℕ → ℕ → ℕ → LineCall
 unfolding lineAnswer joinedText joinedMap
-lineCall l p book line textSlots mapSlots recordSlots =
-    let answer = lineAnswer l p book line textSlots mapSlots recordSlots in
+lineWithin l p book line textSlots mapSlots room recordSlots =
+    let answer = lineAnswer l p book line textSlots mapSlots room in
     record {
       answer = andThen answer (λ a. given (readingOf a));
       text = slots 0 textSlots (λ _. joinedText l line) answer;
       map = slots 0 mapSlots (λ _. joinedMap l line) answer;
       records = slots zeroRecord recordSlots (λ a. a .sequence .clauses) answer;
     }
+
+-- into all of them
+abbrev pub lineCall : Language → Prefix → List ℕ → List ℕ → ℕ → ℕ → ℕ → LineCall
+lineCall l p book line textSlots mapSlots recordSlots = lineWithin l p book line textSlots mapSlots recordSlots recordSlots
 
 abbrev pub lineGives : LineAnswer → Answer Reading
 lineGives (LineAnswer.Read r) = given r

@@ -31,7 +31,7 @@ use Rattle.clause.specs.Calls.{sequenceCall}
 use Rattle.directive.specs.Name.{compact, entriesWith, entryOf, headFrom, isHead, mayGrow, nameFrom, nameAt}
 use Rattle.reader.specs.declared.Reading.{Reading}
 use Rattle.reader.specs.Line.{openingC, openingF, parsed, lineAnswer}
-use Rattle.reader.specs.Calls.{LineCall, lineCall}
+use Rattle.reader.specs.Calls.{LineCall, lineCall, lineWithin}
 
 -- join alone, omp, with just enough slots
 abbrev join : Language → List ℕ → JoinCall
@@ -129,5 +129,5 @@ pub table :
           ∷ zeroRecord
           ∷ [];
     })
-unfolding leading upTo trimmed sameBy begins firstHigh literal blockEnd piece scanFrom matchFrom matching taken nextSolid bracketed turned splitFrom split flat splitCall breakC breakF sentinel sentinelEnded sentinelAny eol commentF marker lead triviaC triviaF skipFrom skip codeLength endsIn continuedF checkLine faultFrom fault keptFrom joinedText joinedMap joinAnswer joinCall spanAnswer badFrom entriesFrom placeAfter clausesOf headerOf bookOf isNamed repeatFrom bookFault bookCall entryFrom ruleAt clauseAt sequenceFrom sequenceAt sequenceCall compact entriesWith entryOf headFrom isHead mayGrow nameFrom nameAt openingC openingF parsed lineAnswer lineCall
+unfolding leading upTo trimmed sameBy begins firstHigh literal blockEnd piece scanFrom matchFrom matching taken nextSolid bracketed turned splitFrom split flat splitCall breakC breakF sentinel sentinelEnded sentinelAny eol commentF marker lead triviaC triviaF skipFrom skip codeLength endsIn continuedF checkLine faultFrom fault keptFrom joinedText joinedMap joinAnswer joinCall spanAnswer badFrom entriesFrom placeAfter clausesOf headerOf bookOf isNamed repeatFrom bookFault bookCall entryFrom ruleAt clauseAt sequenceFrom sequenceAt sequenceCall compact entriesWith entryOf headFrom isHead mayGrow nameFrom nameAt openingC openingF parsed lineAnswer lineWithin
 table = (refl, refl, refl, refl, refl, refl, refl, refl, refl, refl, refl, refl, refl, refl, refl, refl, refl, refl, refl, refl, refl, refl, refl, refl, refl)

@@ -19,7 +19,6 @@ use Rattle.clause.specs.declared.Progress.{Progress}
 use Rattle.clause.specs.declared.Progress.the-variants as Progress
 use Rattle.clause.specs.declared.SequenceAnswer.{SequenceAnswer}
 use Rattle.clause.specs.declared.SequenceAnswer.the-variants as SequenceAnswer
-use Rattle.clause.specs.Clause.{zeroRecord}
 use Rattle.clause.specs.Sequence.{Sequence}
 use Rattle.clause.specs.Steps.{Started, refusedStart, readOn}
 use Rattle.directive.specs.declared.DirectiveName.{DirectiveName}
@@ -27,7 +26,6 @@ use Rattle.reader.specs.declared.Head.{Head}
 use Rattle.reader.specs.declared.LineAnswer.{LineAnswer}
 use Rattle.reader.specs.declared.LineAnswer.the-variants as LineAnswer
 use Rattle.reader.specs.Line.{Parsed, lineAnswer}
-use Rattle.reader.specs.Calls.{readingOf, LineCall}
 
 -- the checks found nothing, or a refusal
 abbrev pub checkOf : Verdict → Answer (Unit {0})
@@ -90,15 +88,3 @@ abbrev pub isGoing : Progress → Bool
 isGoing Progress.Going = true
 isGoing Progress.Ended = false
 isGoing (Progress.Refused r) = false
-
--- the whole line into so many of the record slots that are lent
-unfoldable pub lineWithin : Language → Prefix → List ℕ → List ℕ → ℕ → ℕ → ℕ → ℕ → LineCall
-unfolding lineAnswer joinedText joinedMap
-lineWithin l p book line textSlots mapSlots room recordSlots =
-    let answer = lineAnswer l p book line textSlots mapSlots room in
-    record {
-      answer = andThen answer (λ a. given (readingOf a));
-      text = slots 0 textSlots (λ _. joinedText l line) answer;
-      map = slots 0 mapSlots (λ _. joinedMap l line) answer;
-      records = slots zeroRecord recordSlots (λ a. a .sequence .clauses) answer;
-    }

@@ -14,8 +14,7 @@ use refusal::Refusal;
 ghost use mathlib.Core.Path.{_≡_};
 ghost use Prim.Native.Nat.{min};
 ghost use lib.ListN.{length};
-ghost use Rattle.reader.specs.Calls.{LineCall, lineCall, lineGives};
-ghost use Rattle.reader.specs.Steps.{lineWithin};
+ghost use Rattle.reader.specs.Calls.{LineCall, lineCall, lineGives, lineWithin};
 
 // The reading of a line: the directive's entry and where its name stands, the number of clause records, and the place of the unread rest.
 // Places are offsets of the joined text.

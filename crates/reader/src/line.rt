@@ -9,8 +9,7 @@ use lexer::Prefix;
 ghost use mathlib.Core.Path.{_≡_};
 ghost use Prim.Native.Nat.{_≤_, min};
 ghost use lib.ListN.{length};
-ghost use Rattle.reader.specs.Calls.{LineCall, lineGives};
-ghost use Rattle.reader.specs.Steps.{lineWithin};
+ghost use Rattle.reader.specs.Calls.{LineCall, lineGives, lineWithin};
 
 // The whole line into so many of the record slots; every other slot is zeroed.
 pub fn read_into(

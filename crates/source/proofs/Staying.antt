@@ -79,14 +79,3 @@ module _ (xs : List ℕ) (from i : ℕ) where
   stays-past (suc k) h e s =
       let n : i + suc k + 1 ≡ i + suc (suc k) = omega arith in
       rw n at (stays-more xs from (i + suc k) (stays-past k (omega arith) (and-left (plains k) (isPlain (getD xs (i + suc k) 0)) e) s) h (and-right (plains k) (isPlain (getD xs (i + suc k) 0)) e))
-
--- a part of a text, byte by byte
-module _ (s : List ℕ) (i end : ℕ) where
-  pub part-next : i < end → end ≤ length s → take (end - i) (drop i s) ≡ getD s i 0 ∷ take (end - (i + 1)) (drop (i + 1) s)
-  part-next h g =
-      let n : end - i ≡ suc (end - (i + 1)) = omega arith in
-      let l : i < length s = omega arith in
-      rw (n, drop-cons s i 0, add-one i) refl
-
-  pub part-none : end ≤ i → take (end - i) (drop i s) ≡ []
-  part-none h = let n : end - i ≡ 0 = omega arith in rw n refl

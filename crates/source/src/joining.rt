@@ -75,7 +75,7 @@ pub fn copy_into(content: &[u8], copy: &mut [u8]) -> usize
         let gone = any_cut_at(content, i);
         if gone == 0 {
             let end = runs::plain_end(content, i + 1);
-            k = runs::copy_part(content, i, end, copy, k);
+            k = ascii::copy_part(content, i, end, copy, k);
             i = end;
         } else {
             i += gone;

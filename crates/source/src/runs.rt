@@ -1,8 +1,6 @@
-// Runs of a content that no continuation begins in, and their copy.
-ghost use mathlib.Core.Path.{_≡_};
-ghost use mathlib.Core.List.{_++_};
-ghost use Prim.Native.Nat.{_+_, _-_, _≤_};
-ghost use lib.ListN.{length, take, drop};
+// Runs of a content that no continuation begins in.
+ghost use Prim.Native.Nat.{_≤_};
+ghost use lib.ListN.{length};
 ghost use Rattle.source.specs.Staying.{Stays};
 
 // Behind a place, how far no byte is `\` or `&`, by eights: one branch for eight bytes.
@@ -53,20 +51,4 @@ pub fn plain_end(content: &[u8], from: usize) -> usize
         }
     }
     i
-}
-
-// Copies a part of a content to a place of the copy; the place behind it is returned.
-pub fn copy_part(content: &[u8], from: usize, end: usize, copy: &mut [u8], at: usize) -> usize
-    requires { ⌜ (from ≤ end) × ((end ≤ length (now content)) × (at + (end - from) ≤ length (now copy))) ⌝ }
-    ensures { λ r. ⌜ r ≡ at + (end - from) ⌝ }
-    ensures { λ r. ⌜ take r (now (copy .exit)) ≡ take at (now (copy .entry)) ++ take (end - from) (drop from (now (content .entry))) ⌝ }
-{
-    let mut i = from;
-    let mut k = at;
-    while i < end {
-        copy[k] = content[i];
-        i += 1;
-        k += 1;
-    }
-    k
 }

@@ -41,8 +41,7 @@ use Rattle.lexer.specs.declared.Language.{Language}
 use Rattle.lexer.specs.declared.Prefix.{Prefix}
 use Rattle.clause.specs.declared.ClauseRecord.{ClauseRecord}
 use Rattle.reader.specs.declared.LineAnswer.{LineAnswer}
-use Rattle.reader.specs.Calls.{lineCall, lineGives}
-use Rattle.reader.specs.Steps.{lineWithin}
+use Rattle.reader.specs.Calls.{lineGives, lineWithin}
 use Rattle.lexer.proofs.Language as LG
 use Rattle.lexer.proofs.Language.Laws as LG′
 use Rattle.lexer.proofs.Prefix as PX
@@ -149,16 +148,12 @@ module _ {M : Type 1} (𝓤 : URA M) (H : Heap 𝓤) (A : Atoms 𝓤) (W : Given
   abbrev Within : LineAnswer → List ℕ → List ℕ → List ClauseRecord → Type 0
   Within r T₂ M₂ R₂ = record { answer = lineGives r; text = T₂; map = M₂; records = R₂ } ≡ lineWithin l p (xb .now) (xn .now) (length (xt .now)) (length (xm .now)) n n
 
-  same-call : lineWithin l p (xb .now) (xn .now) (length (xt .now)) (length (xm .now)) n n ≡ lineCall l p (xb .now) (xn .now) (length (xt .now)) (length (xm .now)) n
-  unfolding lineWithin lineCall
-  same-call = refl
-
   exits : (r : LineAnswer) (w : Val) (T₂ M₂ : List ℕ) (R₂ : List ClauseRecord) → Within r T₂ M₂ R₂ → length T₂ ≡ length (xt .now) → length M₂ ≡ length (xm .now) → length R₂ ≡ n
       → ent 𝓤 (⋆ 𝓤 H A (‵ (flft κb qb) ∷ ‵ (flft κn qn) ∷ ‵ (flft κt qt) ∷ ‵ (flft κm qm) ∷ ‵ (flft κr qr) ∷ ‵ (finally u8 (xt .name) T₂) ∷ ‵ (finally u16 (xm .name) M₂) ∷ ‵ (finally T.the-row (xr .name) R₂) ∷ ‵ (LA.the-row .own r (w ∷ [])) ∷ [])) (Post w)
   exits r w T₂ M₂ R₂ e lT lM lR =
       qed W (‵ (flft κb qb) ∷ ‵ (flft κn qn) ∷ ‵ (flft κt qt) ∷ ‵ (flft κm qm) ∷ ‵ (flft κr qr) ∷ ‵ (finally u8 (xt .name) T₂) ∷ ‵ (finally u16 (xm .name) M₂) ∷ ‵ (finally T.the-row (xr .name) R₂) ∷ ‵ (LA.the-row .own r (w ∷ [])) ∷ []) ∵
       suffices ! _ (ends-at 𝓤 H A f.ended stayed (f.clauses 𝓤 H A mem run) W (((κb, (κn, (κt, (κm, (κr, tt))))), (qb, (qn, (qt, (qm, (qr, tt))))), tt, a, vals), tt) w r (tt, (tt, (tt, (tt, (T₂, (M₂, (R₂, tt))))))) (tt, (tt, (tt, (tt, (lT, (lM, (lR, tt)))))))) $
-      says ! (e ∙ same-call) $ nothing ! $ move ! (5 ∷ 0 ∷ []) $ join ! $ move ! (4 ∷ 0 ∷ []) $ join ! $ move ! (3 ∷ 0 ∷ []) $ join ! $ move ! (2 ∷ 0 ∷ []) $ join ! $ move ! (1 ∷ 0 ∷ []) $ join ! $ frame ! $ nothing ! $ move ! (3 ∷ 0 ∷ []) $ fjoin ! $ move ! (2 ∷ 0 ∷ []) $ fjoin ! $ move ! (1 ∷ 0 ∷ []) $ fjoin ! $ nothing ! $ fjoin ! $ nothing ! $ fjoin ! $ nothing ! $ fjoin ! $ nothing ! $ fjoin ! $ frame ! $ done !
+      says ! e $ nothing ! $ move ! (5 ∷ 0 ∷ []) $ join ! $ move ! (4 ∷ 0 ∷ []) $ join ! $ move ! (3 ∷ 0 ∷ []) $ join ! $ move ! (2 ∷ 0 ∷ []) $ join ! $ move ! (1 ∷ 0 ∷ []) $ join ! $ frame ! $ nothing ! $ move ! (3 ∷ 0 ∷ []) $ fjoin ! $ move ! (2 ∷ 0 ∷ []) $ fjoin ! $ move ! (1 ∷ 0 ∷ []) $ fjoin ! $ nothing ! $ fjoin ! $ nothing ! $ fjoin ! $ nothing ! $ fjoin ! $ nothing ! $ fjoin ! $ frame ! $ done !
 
   module _ (C : Calls 𝓤 H) (Λ : Loops 𝓤 H) (fm : FmC 𝓤 H (W .laws) C) (known : Triple 𝓤 (C #into) (ReadInto 𝓤 H A mem run)) where
     walk : ent 𝓤 (onEntry 𝓤 H A f.signature (κb, (κn, (κt, (κm, (κr, tt))))) (qb, (qn, (qt, (qm, (qr, tt))))) a vals) (WpFn 𝓤 H C Λ code.function (vl ∷ vp ∷ sb ∷ sn ∷ st ∷ sm ∷ sr ∷ []) Post)

@@ -51,8 +51,7 @@ use Rattle.lexer.specs.declared.Prefix.{Prefix}
 use Rattle.clause.specs.declared.ClauseRecord.{ClauseRecord}
 use Rattle.reader.specs.declared.LineAnswer.{LineAnswer}
 use Rattle.reader.specs.declared.Line512.{Line512}
-use Rattle.reader.specs.Calls.{lineGives}
-use Rattle.reader.specs.Steps.{lineWithin}
+use Rattle.reader.specs.Calls.{lineGives, lineWithin}
 use Rattle.reader.proofs.Arrays.{Slots, slots-ty, spelt, mach, typed, laid, raised}
 use Rattle.lexer.proofs.Language as LG
 use Rattle.lexer.proofs.Language.Laws as LG′

@@ -24,7 +24,7 @@ returns-2 c =
     let m : tie.After-copy-part = c .before .before in
     let a = m .before .before .before .before .before .args in
     let w = take (a .end - a .start) (drop (a .start) (a .text .now)) in
-    kept-fits (a .from + (a .end - a .start)) (m .copy-part .last .0) (take (a .from) (a .buffer .now) ++ w) (omega arith) (m .copy-part .ensures)
+    kept-fits (m .copy-part .result) (m .copy-part .last .1 .1 .1 .0) (take (a .from) (a .buffer .now) ++ w) (omega (arith, m .copy-part .ensures .0)) (m .copy-part .ensures .1)
 
 pub put-behind-spec : {M : Type 1} → statement M
 put-behind-spec =
@@ -33,8 +33,6 @@ put-behind-spec =
     (λ c. search needs)
     (λ c. search needs)
     returns
-    (λ c κs. search needs)
-    (λ c. search needs)
-    (λ c. search needs)
+    (λ c κs. (omega arith, (omega arith, omega arith)))
     (λ c. search needs)
     returns-2)

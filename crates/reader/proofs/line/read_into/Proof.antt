@@ -48,8 +48,8 @@ use Rattle.clause.specs.Calls.{sequenceGives}
 use Rattle.clause.specs.Steps.{Started, keptOf, readOn, settled}
 use Rattle.reader.specs.declared.Head.{Head}
 use Rattle.reader.specs.declared.LineAnswer.{LineAnswer}
-use Rattle.reader.specs.Calls.{lineGives}
-use Rattle.reader.specs.Steps.{answered, HeadGives, lineWithin}
+use Rattle.reader.specs.Calls.{lineGives, lineWithin}
+use Rattle.reader.specs.Steps.{answered, HeadGives}
 use Rattle.clause.proofs.Lending.{Outstanding, lent-on, had-again}
 use Rattle.reader.proofs.Sharing.{Withheld, shared-on, unshared}
 use Rattle.reader.proofs.Settled.{started-for, line-settles}
