@@ -88,6 +88,7 @@ pub fn rows(report: &Report, folder: &str) {
         for count in [1, 10, 500] {
             row_from_names(report, &format!("sequence {count}, registry built, {title}"), &book, &clauses(&TYPICAL, count, " "), count);
         }
+        row_from_names(report, &format!("sequence 4000, registry built, {title}"), &book, &clauses(&SHORT, 4_000, ""), 4_000);
     }
 }
 
