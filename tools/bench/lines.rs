@@ -23,6 +23,9 @@ pub fn rows(report: &Report, folder: &str) {
             row(report, &format!("line {bytes}, broken, {title}"), book, &broken(bytes, 0));
         }
     }
+    for bytes in SIZES {
+        spare_row(report, &format!("line {bytes}, small book, 512 record slots"), &books[0].1, &directive(bytes, 0));
+    }
     report.heading("the same by the line, 100 lines a call under one check of the book", "Rust ns");
     for (title, book) in &books {
         for bytes in SIZES {
@@ -122,6 +125,25 @@ fn row(report: &Report, name: &str, book: &[u8], line: &str) {
     let (mut slots, _) = answered(book, line, &mut shelf);
     let registries = shelf.book(book).expect("a valid book");
     report.row(name, line.len(), || slots.read(book, black_box(line)) as usize, || theirs(registries, black_box(line)).unwrap_or(0));
+}
+
+/// The same with 512 record slots, or as many as there are clauses if these are more; the Rust's caller clears as many.
+fn spare_row(report: &Report, name: &str, book: &[u8], line: &str) {
+    if !report.wants(name) {
+        return;
+    }
+    let mut shelf = Shelf::default();
+    let (mut slots, _) = answered(book, line, &mut shelf);
+    let read = slots.records.clone();
+    slots.records.resize(read.len().max(512), ours::ClauseRecord::BEFORE);
+    slots.read(book, line);
+    assert_eq!(listed(&slots.records[..read.len()]), listed(&read), "{name}");
+    let mut spare = slots.records.clone();
+    let registries = shelf.book(book).expect("a valid book");
+    report.row(name, line.len(), || slots.read(book, black_box(line)) as usize, || {
+        black_box(&mut spare).fill(ours::ClauseRecord::BEFORE);
+        theirs(registries, black_box(line)).unwrap_or(0)
+    });
 }
 
 fn many_row(report: &Report, name: &str, book: &[u8], line: impl Fn(usize) -> String) {
