@@ -133,15 +133,17 @@ fn spare_row(report: &Report, name: &str, book: &[u8], line: &str) {
         return;
     }
     let mut shelf = Shelf::default();
-    let (mut slots, _) = answered(book, line, &mut shelf);
-    let read = slots.records.clone();
-    slots.records.resize(read.len().max(512), ours::ClauseRecord::BEFORE);
-    slots.read(book, line);
+    let (mut slots, answer) = answered(book, line, &mut shelf);
+    let (read, reading) = (slots.records.clone(), slots.reading);
+    let spare = 512usize.saturating_sub(read.len());
+    slots.records = vec![ours::ClauseRecord::BEFORE; read.len() + spare];
+    assert_eq!((slots.read(book, line), slots.reading), (answer, reading), "{name}");
     assert_eq!(listed(&slots.records[..read.len()]), listed(&read), "{name}");
-    let mut spare = slots.records.clone();
+    assert_eq!(listed(&slots.records[read.len()..]), format!("+{spare}"), "{name}");
+    let mut cleared = slots.records.clone();
     let registries = shelf.book(book).expect("a valid book");
     report.row(name, line.len(), || slots.read(book, black_box(line)) as usize, || {
-        black_box(&mut spare).fill(ours::ClauseRecord::BEFORE);
+        black_box(&mut cleared).fill(ours::ClauseRecord::BEFORE);
         theirs(registries, black_box(line)).unwrap_or(0)
     });
 }
