@@ -21,6 +21,7 @@ ghost use Rattle.ascii.specs.Ascii.{isWord};
 ghost use Rattle.ascii.specs.Text.{foundAt};
 ghost use Rattle.rulebook.specs.Book.{LaidIn, headerOf, bookOf};
 ghost use Rattle.rulebook.specs.Check.{HasForm};
+ghost use Rattle.rulebook.specs.Index.{Looked};
 ghost use Rattle.directive.specs.Name.{latest, orMissing, nameFrom, named, nameAt, nameGives};
 ghost use Rattle.directive.specs.Steps.{keptIn, entryIf, nextIf, latestOf, Ahead, Placed};
 
@@ -77,16 +78,17 @@ fn starts_word(text: &[u8], at: usize) -> bool
 }
 
 // The entry of the candidate that is kept; a longer one has none.
-fn kept_entry(book: &[u8], header: Header, buffer: &[u8], len: usize) -> Found
+fn kept_entry(book: &[u8], header: Header, index: &[u32], buffer: &[u8], len: usize) -> Found
     requires { ⌜ header ≡ headerOf (now book) ⌝ }
     requires { ⌜ LaidIn (header .directives) (now book) ⌝ }
+    requires { ⌜ Looked (header .directives) (now book) (now index) ⌝ }
     requires { ⌜ length (now buffer) ≡ 512 ⌝ }
     ensures { λ r. ⌜ foundAt r ≡ entryIf (bookOf (now (book .entry))) (keptIn len (now (buffer .entry))) ⌝ }
 {
     if len > 512 {
         return Found::Nothing;
     }
-    names::entry_of(book, header, &buffer[..len])
+    names::entry_of(book, header, index, &buffer[..len])
 }
 
 // What follows the candidate that is kept, with its entry, whose last word ends at a place. Trivia comes first, before anything is decided.
@@ -151,6 +153,7 @@ fn finish(from: usize, start: usize, found: Latest) -> NameAnswer
 fn search(
     book: &[u8],
     header: Header,
+    index: &[u32],
     text: &[u8],
     from: usize,
     start: usize,
@@ -158,6 +161,7 @@ fn search(
 ) -> NameAnswer
     requires { ⌜ header ≡ headerOf (now book) ⌝ }
     requires { ⌜ LaidIn (header .directives) (now book) ⌝ }
+    requires { ⌜ Looked (header .directives) (now book) (now index) ⌝ }
     requires { ⌜ (from ≤ start) × (start ≤ length (now text)) × (length (now buffer) ≡ 512) ⌝ }
     ensures { λ r. ⌜ nameGives r ≡ named start (nameFrom (bookOf (now (book .entry))) (now (text .entry)) from [] none 0 start (drop start (now (text .entry)))) ⌝ }
     ensures { λ r. ⌜ Placed from (length (now (text .entry))) r ⌝ }
@@ -168,7 +172,7 @@ fn search(
     while starts_word(text, place) {
         let end = run_end(text, place, ByteSet::Word);
         len = candidate::push_word(buffer, len, text, place, end);
-        let entry = kept_entry(book, header, buffer, len);
+        let entry = kept_entry(book, header, index, buffer, len);
         found = remember(entry, end, found);
         match next_word(book, header, text, end, buffer, len, entry) {
             Next::Word(p) => {
@@ -189,9 +193,10 @@ fn search(
 }
 
 // The directive's name from a place of a text on, behind trivia.
-pub fn lex_name(book: &[u8], header: Header, text: &[u8], at: usize) -> NameAnswer
+pub fn lex_name(book: &[u8], header: Header, index: &[u32], text: &[u8], at: usize) -> NameAnswer
     requires { ⌜ HasForm (now book) ⌝ }
     requires { ⌜ header ≡ headerOf (now book) ⌝ }
+    requires { ⌜ Looked (header .directives) (now book) (now index) ⌝ }
     requires { ⌜ at ≤ length (now text) ⌝ }
     ensures { λ r. ⌜ nameGives r ≡ nameAt (bookOf (now (book .entry))) (now (text .entry)) at ⌝ }
     ensures { λ r. ⌜ Placed at (length (now (text .entry))) r ⌝ }
@@ -203,7 +208,7 @@ pub fn lex_name(book: &[u8], header: Header, text: &[u8], at: usize) -> NameAnsw
         }),
         Skipped::Past(p) => {
             let mut buffer = [0u8; 512];
-            search(book, header, text, at, p, &mut buffer)
+            search(book, header, index, text, at, p, &mut buffer)
         }
     }
 }

@@ -9,7 +9,7 @@ use ascii::run_end;
 use rulebook::Entries;
 use rulebook::EntryFound;
 use rulebook::Header;
-use rulebook::lookup::find_entry;
+use rulebook::index::look_up;
 use rulebook::lookup::name_at;
 ghost use mathlib.Core.Path.{_≡_};
 ghost use mathlib.Core.Bool.{false, _&&_};
@@ -18,6 +18,7 @@ ghost use lib.ListN.{length, take, drop, getD};
 ghost use lib.Dec.{eqb};
 ghost use Rattle.ascii.specs.Text.{foundAt, comparing};
 ghost use Rattle.rulebook.specs.Book.{entriesIn, LaidIn, headerOf, bookOf};
+ghost use Rattle.rulebook.specs.Index.{Looked};
 ghost use Rattle.directive.specs.Name.{entryOf, mayGrow};
 ghost use Rattle.directive.specs.Steps.{solidFrom, agreesIn, counted as countedWith, tallyFrom, anyFrom};
 
@@ -130,13 +131,14 @@ fn any_agrees(book: &[u8], entries: Entries, candidate: &[u8], how: Comparison) 
 }
 
 // The entry of a candidate: the name itself, or else, where blanks in names are optional, the one name that is equal without them.
-pub fn entry_of(book: &[u8], header: Header, candidate: &[u8]) -> Found
+pub fn entry_of(book: &[u8], header: Header, index: &[u32], candidate: &[u8]) -> Found
     requires { ⌜ header ≡ headerOf (now book) ⌝ }
     requires { ⌜ LaidIn (header .directives) (now book) ⌝ }
+    requires { ⌜ Looked (header .directives) (now book) (now index) ⌝ }
     ensures { λ r. ⌜ foundAt r ≡ entryOf (bookOf (now (book .entry))) (now (candidate .entry)) ⌝ }
 {
     let directives = header.directives;
-    match find_entry(book, directives, candidate, header.ignores_case) {
+    match look_up(book, directives, index, candidate, header.ignores_case) {
         EntryFound::At(i, _) => {
             return Found::At(i);
         }

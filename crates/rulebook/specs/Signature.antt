@@ -2,7 +2,10 @@
 use Prim.Native.Nat.{ℕ, _+_, _*_, _%_}
 use mathlib.Core.List.{List, [], _∷_}
 
--- the two cases of a letter differ by 32, and no other byte is compared as another
-unfoldable pub signatureFrom : ℕ → List ℕ → ℕ
-signatureFrom sum [] = sum
-signatureFrom sum (b ∷ bs) = signatureFrom ((sum * 33 + b % 32) % 4096) bs
+-- the sum of a name's bytes and the sum of the sums, one number of both; the two cases of a letter differ by 32, and no other byte is compared as another
+unfoldable pub signatureFrom : ℕ → ℕ → List ℕ → ℕ
+signatureFrom sum sums [] = (sum + sums * 37) % 256
+signatureFrom sum sums (b ∷ bs) = signatureFrom ((sum + b % 32) % 4096) ((sums + sum) % 4096) bs
+
+abbrev pub signature : List ℕ → ℕ
+signature name = signatureFrom 0 0 name

@@ -1,5 +1,6 @@
 // The book: a file of directive names, clause names and rules.
 mod format;
+pub mod index;
 pub mod lookup;
 mod repeats;
 
@@ -9,6 +10,7 @@ use refusal::Refusal;
 ghost use mathlib.Core.Path.{_≡_};
 ghost use Rattle.ascii.specs.Text.{foundAt};
 ghost use Rattle.rulebook.specs.Check.{bookFault, bookCall, bookGives, Stands};
+ghost use Rattle.rulebook.specs.Index.{Fresh, Indexes};
 
 // What a clause may look like.
 pub enum ClauseRule {
@@ -100,21 +102,25 @@ pub struct CheckedBook {
     pub header: Header,
 }
 
-// The first fault of a book: a bad byte, its end if it is cut, else a repeat.
-fn book_fault(book: &[u8]) -> Found
+// The first fault of a book: a bad byte, its end if it is cut, else a repeat. In a book without one the index is made.
+fn book_fault(book: &[u8], index: &mut [u32]) -> Found
+    requires { ⌜ Fresh (now index) ⌝ }
     ensures { λ r. ⌜ foundAt r ≡ bookFault (now (book .entry)) ⌝ }
+    ensures { λ r. ⌜ Indexes (now (book .entry)) (now (index .exit)) ⌝ }
 {
     match format::first_bad(book) {
         Found::At(place) => Found::At(place),
-        Found::Nothing => repeats::first_repeat(book),
+        Found::Nothing => repeats::first_repeat(book, index),
     }
 }
 
-// Whether a book is valid.
-pub fn check_book(book: &[u8]) -> BookAnswer
+// Whether a book is valid, and its index.
+fn judge(book: &[u8], index: &mut [u32]) -> BookAnswer
+    requires { ⌜ Fresh (now index) ⌝ }
     ensures { λ r. ⌜ bookGives r ≡ bookCall (now (book .entry)) ⌝ }
+    ensures { λ r. ⌜ Indexes (now (book .entry)) (now (index .exit)) ⌝ }
 {
-    match book_fault(book) {
+    match book_fault(book, index) {
         Found::At(place) => BookAnswer::Refused(Refusal {
             reason: Reason::WrongBook,
             place,
@@ -123,11 +129,21 @@ pub fn check_book(book: &[u8]) -> BookAnswer
     }
 }
 
-// The check, and the header read once.
-pub fn checked(book: &[u8]) -> CheckedBook
-    ensures { λ r. ⌜ Stands (now (book .entry)) r ⌝ }
+// Whether a book is valid.
+pub fn check_book(book: &[u8]) -> BookAnswer
+    ensures { λ r. ⌜ bookGives r ≡ bookCall (now (book .entry)) ⌝ }
 {
-    let verdict = check_book(book);
+    let mut index = [0u32; 1024];
+    judge(book, &mut index)
+}
+
+// The check, the header read once, and the index.
+pub fn checked(book: &[u8], index: &mut [u32]) -> CheckedBook
+    requires { ⌜ Fresh (now index) ⌝ }
+    ensures { λ r. ⌜ Stands (now (book .entry)) r ⌝ }
+    ensures { λ r. ⌜ Indexes (now (book .entry)) (now (index .exit)) ⌝ }
+{
+    let verdict = judge(book, index);
     let header = lookup::header_under(book, verdict);
     CheckedBook { verdict, header }
 }

@@ -8,6 +8,7 @@ use crate::Header;
 use crate::RuleByte;
 use crate::format::rule_for;
 use crate::format::wide;
+use crate::index::look_up;
 use ascii::Range;
 use ascii::class::fold;
 ghost use mathlib.Core.Path.{_≡_};
@@ -20,6 +21,7 @@ ghost use Rattle.rulebook.specs.Format.{ruleFor};
 ghost use Rattle.rulebook.specs.Book.{ruleSaid, nameAt, placeAfter, Laid, entriesIn, LaidIn, headerOf, bookOf, noHeader};
 ghost use Rattle.rulebook.specs.Check.{HasForm, bookFault, bookCall, bookGives};
 ghost use Rattle.rulebook.specs.Lookup.{findFrom, clauseEntry};
+ghost use Rattle.rulebook.specs.Index.{Looked};
 
 // Whether two bytes compare equal. Bytes that differ, and not by the 32 between the cases, need no class.
 fn same_byte(a: u8, b: u8, ignore_case: bool) -> bool
@@ -180,17 +182,19 @@ pub fn find_entry(book: &[u8], entries: Entries, name: &[u8], ignore_case: bool)
 pub fn find_clause(
     book: &[u8],
     header: Header,
+    index: &[u32],
     text: &[u8],
     start: usize,
     end: usize,
 ) -> ClauseEntry
     requires { ⌜ HasForm (now book) ⌝ }
     requires { ⌜ header ≡ headerOf (now book) ⌝ }
+    requires { ⌜ Looked (header .clauses) (now book) (now index) ⌝ }
     requires { ⌜ (start ≤ end) × (end ≤ length (now text)) ⌝ }
     ensures { λ r. ⌜ r ≡ clauseEntry (bookOf (now (book .entry))) (take (end - start) (drop start (now (text .entry)))) ⌝ }
 {
     let clauses = header.clauses;
-    match find_entry(book, clauses, &text[start..end], header.ignores_case) {
+    match look_up(book, clauses, index, &text[start..end], header.ignores_case) {
         EntryFound::At(i, at) => ClauseEntry {
             index: i as u16,
             rule: rule_said(book[at]),

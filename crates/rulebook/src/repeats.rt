@@ -1,60 +1,49 @@
-// Names that repeat earlier ones.
+// Names that repeat earlier ones, found by the index that is made on the way.
 use crate::Entries;
 use crate::EntryFound;
-use crate::format::wide;
-use crate::lookup::find_entry;
+use crate::index::last_named;
+use crate::index::signature;
 use crate::lookup::name_at;
 use crate::lookup::read_header;
 use ascii::Found;
 ghost use mathlib.Core.Path.{_≡_};
-ghost use mathlib.Core.Bool.{false};
+ghost use mathlib.Core.Option.{none};
 ghost use mathlib.Core.List.{[]};
-ghost use Prim.Native.Nat.{_<_};
+ghost use Prim.Native.Nat.{_<_, _≤_};
 ghost use Rattle.ascii.specs.Ascii.{fold};
 ghost use Rattle.ascii.specs.Text.{foundAt};
-ghost use Rattle.rulebook.specs.Book.{entriesIn, LaidIn, bookOf};
+ghost use Rattle.rulebook.specs.Book.{entriesIn, LaidIn, headerOf, bookOf};
 ghost use Rattle.rulebook.specs.Check.{isNamed, repeatFrom, orElse, HasForm};
-ghost use Rattle.rulebook.specs.Signature.{signatureFrom};
+ghost use Rattle.rulebook.specs.Signature.{signature as signatureOf};
+ghost use Rattle.rulebook.specs.Index.{Indexed, Fresh, Blank, Elsewhere, Indexes};
 
-// A number that names share if they are equal with case ignored: the two cases of a letter differ by 32.
-fn signature(name: &[u8]) -> usize
-    ensures { λ r. ⌜ r < 4096 ⌝ }
-    ensures { λ r. ⌜ r ≡ signatureFrom 0 (now (name .entry)) ⌝ }
-{
-    let count = name.len();
-    let mut sum = 0;
-    let mut i = 0;
-    while i < count {
-        sum = (sum * 33 + wide(name[i] % 32)) % 4096;
-        i += 1;
-    }
-    sum
-}
-
-// Whether an earlier entry has a name, case ignored. None has it if its signature is not seen yet, and then none is compared.
-fn is_repeat(book: &[u8], earlier: Entries, name: &[u8], seen: bool) -> bool
+// Whether an earlier entry has a name, case ignored.
+fn is_repeat(book: &[u8], earlier: Entries, index: &[u32], mark: usize, name: &[u8]) -> bool
     requires { ⌜ LaidIn earlier (now book) ⌝ }
-    requires { ⌜ (seen ≡ false → isNamed fold (now name) (entriesIn earlier (now book)) ≡ false) ⌝ }
+    requires { ⌜ (mark < 256) × (mark ≡ signatureOf (now name)) ⌝ }
+    requires { ⌜ Indexed (earlier .lead) (earlier .first) (earlier .count) (now book) (now index) ⌝ }
     ensures { λ r. ⌜ r ≡ isNamed fold (now (name .entry)) (entriesIn earlier (now (book .entry))) ⌝ }
 {
-    if !seen {
-        return false;
-    }
-    match find_entry(book, earlier, name, true) {
+    match last_named(book, earlier, index, mark, name, true) {
         EntryFound::At(_, _) => true,
         EntryFound::Nothing => false,
     }
 }
 
-// The place of the first entry that repeats an earlier one's name, case ignored.
-fn repeat_among(book: &[u8], entries: Entries) -> Found
+// The place of the first entry that repeats an earlier one's name, case ignored. Up to there the index is made.
+fn repeat_among(book: &[u8], entries: Entries, index: &mut [u32]) -> Found
     requires { ⌜ LaidIn entries (now book) ⌝ }
+    requires { ⌜ (entries .lead ≤ 1) × (entries .count ≤ 255) ⌝ }
+    requires { ⌜ Blank (entries .lead) (now index) ⌝ }
     ensures { λ r. ⌜ foundAt r ≡ repeatFrom [] (entriesIn entries (now (book .entry))) ⌝ }
+    ensures { λ r. ⌜ Elsewhere (entries .lead) (now (index .entry)) (now (index .exit)) ⌝ }
+    ensures { λ r. ⌜ (foundAt r ≡ none → Indexed (entries .lead) (entries .first) (entries .count) (now (book .entry)) (now (index .exit))) ⌝ }
 {
     let lead = entries.lead;
     let first = entries.first;
     let count = entries.count;
-    let mut seen = [false; 4096];
+    let heads = lead * 512;
+    let links = heads + 256;
     let mut at = first;
     let mut done = 0;
     while done < count {
@@ -67,26 +56,29 @@ fn repeat_among(book: &[u8], entries: Entries) -> Found
             count: done,
         };
         let mark = signature(&book[start..end]);
-        if is_repeat(book, earlier, &book[start..end], seen[mark]) {
+        if is_repeat(book, earlier, index, mark, &book[start..end]) {
             return Found::At(at);
         }
-        seen[mark] = true;
+        index[links + done] = index[heads + mark];
+        index[heads + mark] = ((at - first) * 256 + done + 1) as u32;
         at = end;
         done += 1;
     }
     Found::Nothing
 }
 
-// The first repeat of a book whose form is right: among the directives, else among the clauses.
-pub fn first_repeat(book: &[u8]) -> Found
+// The first repeat of a book whose form is right: among the directives, else among the clauses. Without one the index is whole.
+pub fn first_repeat(book: &[u8], index: &mut [u32]) -> Found
     requires { ⌜ HasForm (now book) ⌝ }
+    requires { ⌜ Fresh (now index) ⌝ }
     ensures { λ r. ⌜ foundAt r ≡ orElse (repeatFrom [] (bookOf (now (book .entry)) .directives)) (repeatFrom [] (bookOf (now (book .entry)) .clauses)) ⌝ }
+    ensures { λ r. ⌜ Indexes (now (book .entry)) (now (index .exit)) ⌝ }
 {
     let header = read_header(book);
     let directives = header.directives;
     let clauses = header.clauses;
-    match repeat_among(book, directives) {
+    match repeat_among(book, directives, index) {
         Found::At(place) => Found::At(place),
-        Found::Nothing => repeat_among(book, clauses),
+        Found::Nothing => repeat_among(book, clauses, index),
     }
 }

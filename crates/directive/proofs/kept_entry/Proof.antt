@@ -13,6 +13,6 @@ kept-entry-spec =
     tie.close
     (tie.spec
     (λ c. rw (lt-leb _ _ (c .if1 .taken)))
-    (λ c. let a = c .before .before .before .before .args in sym (length-take-le (a .len) (a .buffer .now) (omega arith)))
+    (λ c. let a = c .before .before .before .before .before .args in sym (length-take-le (a .len) (a .buffer .now) (omega arith)))
     (λ c κs. search needs)
     (λ c. rw (le-leb _ _ (c .before .before .if1 .left)) (c .entry-of .ensures)))

@@ -1,19 +1,9 @@
--- `rulebook::check_book` meets its contract: the fault of the book is refused with number 4.
+-- `rulebook::check_book` meets its contract: the verdict, by an index of its own.
 -- Assumes nothing.
-use mathlib.Core.Path.{sym, ap, _∙_}
 use borrow.Author.Needs.{needs}
-use Rattle.ascii.specs.Text.{foundAt}
-use Rattle.rulebook.specs.Check.{bookCall}
+use Rattle.rulebook.proofs.Indexes.{fresh}
 use Rattle.rulebook.proofs.check_book.Statement.{statement}
 use Rattle.rulebook.proofs.check_book.Tie as tie
 
 pub check-book-spec : {M : Type 1} → statement M
-unfolding bookCall
-check-book-spec =
-    tie.close
-    (tie.spec
-    (λ c κs. search needs)
-    (λ c. search needs)
-    (λ c. search needs)
-    (λ c. rw (sym (c .before .before .before .book-fault .ensures) ∙ ap foundAt (c .before .place .given .1)))
-    (λ c. rw (sym (c .before .before .book-fault .ensures) ∙ ap foundAt (c .enum-told .given .1))))
+check-book-spec = tie.close (tie.spec (λ c. search needs) (λ c κs. fresh) (λ c. c .before .judge .ensures .0))

@@ -1,4 +1,4 @@
--- `rulebook::checked` meets its contract: the verdict of the check, and the header under it.
+-- `rulebook::checked` meets its contract: the verdict of the check, the header under it, and the index.
 -- Assumes nothing.
 use borrow.Author.Needs.{needs}
 use Rattle.rulebook.proofs.checked.Statement.{statement}
@@ -9,5 +9,6 @@ checked-spec =
     tie.close
     (tie.spec
     (λ c κs. search needs)
-    (λ c κs. c .check-book .ensures)
-    (λ c. record { judged = c .before .check-book .ensures; known = c .header-under .ensures }))
+    (λ c κs. c .before .before .judge .ensures .0)
+    (λ c. search needs)
+    (λ c. (record { judged = c .before .before .before .judge .ensures .0; known = c .header-under .ensures }, c .before .before .before .judge .ensures .1)))

@@ -1,0 +1,81 @@
+// The index of a book, and looking names up by it.
+use crate::Entries;
+use crate::EntryFound;
+use crate::format::wide;
+use crate::lookup::find_entry;
+use crate::lookup::name_at;
+use crate::lookup::same;
+ghost use mathlib.Core.Path.{_≡_};
+ghost use Prim.Native.Nat.{_<_, _≤_};
+ghost use lib.ListN.{length};
+ghost use Rattle.ascii.specs.Text.{comparing};
+ghost use Rattle.rulebook.specs.Book.{entriesIn, LaidIn};
+ghost use Rattle.rulebook.specs.Lookup.{findFrom};
+ghost use Rattle.rulebook.specs.Signature.{signature as signatureOf};
+ghost use Rattle.rulebook.specs.Index.{lastNamed, Indexed, Looked};
+
+// A number that names share if they are equal with case ignored: the two cases of a letter differ by 32.
+pub fn signature(name: &[u8]) -> usize
+    ensures { λ r. ⌜ r < 256 ⌝ }
+    ensures { λ r. ⌜ r ≡ signatureOf (now (name .entry)) ⌝ }
+{
+    let count = name.len();
+    let mut sum = 0;
+    let mut sums = 0;
+    let mut i = 0;
+    while i < count {
+        sums = (sums + sum) % 4096;
+        sum = (sum + wide(name[i] % 32)) % 4096;
+        i += 1;
+    }
+    (sum + sums * 37) % 256
+}
+
+// The last of the entries that has a name: of those with its signature each leads to the one before.
+pub fn last_named(
+    book: &[u8],
+    entries: Entries,
+    index: &[u32],
+    mark: usize,
+    name: &[u8],
+    ignore_case: bool,
+) -> EntryFound
+    requires { ⌜ LaidIn entries (now book) ⌝ }
+    requires { ⌜ (mark < 256) × (mark ≡ signatureOf (now name)) ⌝ }
+    requires { ⌜ Indexed (entries .lead) (entries .first) (entries .count) (now book) (now index) ⌝ }
+    ensures { λ r. ⌜ r ≡ lastNamed (comparing «ignore_case») (now (name .entry)) (entries .lead) (entries .first) (now (book .entry)) (entries .count) ⌝ }
+{
+    let lead = entries.lead;
+    let first = entries.first;
+    // not read below: the loop's invariant speaks of it
+    let count = entries.count;
+    let heads = lead * 512;
+    let links = heads + 256;
+    let mut slot = index[heads + mark];
+    while slot != 0 {
+        let told = (slot - 1) as usize;
+        let i = told % 256;
+        let at = first + told / 256;
+        let range = name_at(book, lead, at);
+        let start = range.start;
+        let end = range.end;
+        if same(&book[start..end], name, ignore_case) {
+            return EntryFound::At(i, at);
+        }
+        slot = index[links + i];
+    }
+    EntryFound::Nothing
+}
+
+// The entry that has a name, by an index or, if it is empty, one after another. There is no second one.
+pub fn look_up(book: &[u8], entries: Entries, index: &[u32], name: &[u8], ignore_case: bool) -> EntryFound
+    requires { ⌜ LaidIn entries (now book) ⌝ }
+    requires { ⌜ Looked entries (now book) (now index) ⌝ }
+    ensures { λ r. ⌜ r ≡ findFrom (comparing «ignore_case») 0 (now (name .entry)) (entriesIn entries (now (book .entry))) ⌝ }
+{
+    if index.len() == 0 {
+        return find_entry(book, entries, name, ignore_case);
+    }
+    let mark = signature(name);
+    last_named(book, entries, index, mark, name, ignore_case)
+}
