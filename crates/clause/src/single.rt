@@ -22,6 +22,7 @@ ghost use Rattle.delimiter.specs.Matching.{matching};
 ghost use Rattle.lexer.specs.Trivia.{skip};
 ghost use Rattle.rulebook.specs.Book.{bookOf, headerOf};
 ghost use Rattle.rulebook.specs.Check.{bookFault};
+ghost use Rattle.rulebook.specs.Index.{Looked};
 ghost use Rattle.clause.specs.Clause.{style, closing, argument as argumentOf, clauseAt};
 ghost use Rattle.clause.specs.Sequence.{afterComma, separated};
 ghost use Rattle.clause.specs.Steps.{flagBook, bareRecord, readOf, separatedOf, WordIn, Clean};
@@ -147,8 +148,16 @@ fn argument(
 }
 
 // The clause at a place, under a book that is valid, where nothing is unclosed from another place on.
-pub fn read_clause(book: &[u8], header: Header, text: &[u8], at: usize, clean: usize) -> ClauseRead
+pub fn read_clause(
+    book: &[u8],
+    header: Header,
+    index: &[u32],
+    text: &[u8],
+    at: usize,
+    clean: usize,
+) -> ClauseRead
     requires { ⌜ (bookFault (now book) ≡ none) × ((header ≡ headerOf (now book)) × ((length (now text) ≤ maxLength) × (at ≤ length (now text)))) ⌝ }
+    requires { ⌜ Looked (header .clauses) (now book) (now index) ⌝ }
     requires { ⌜ Clean (header .«ignores_case») (now text) clean ⌝ }
     ensures { λ r. ⌜ readOf r ≡ clauseAt (bookOf (now (book .entry))) (now (text .entry)) at ⌝ }
 {
@@ -156,7 +165,7 @@ pub fn read_clause(book: &[u8], header: Header, text: &[u8], at: usize, clean: u
     if end == at {
         return fails(Reason::NoClause, at);
     }
-    let found = rulebook::lookup::find_clause(book, header, text, at, end);
+    let found = rulebook::lookup::find_clause(book, header, index, text, at, end);
     let rule = found.rule;
     let word = ClauseWord {
         start: at,

@@ -26,6 +26,7 @@ ghost use Rattle.refusal.specs.Answer.{maxLength};
 ghost use Rattle.lexer.specs.Trivia.{skip};
 ghost use Rattle.rulebook.specs.Book.{bookOf};
 ghost use Rattle.rulebook.specs.Check.{bookFault};
+ghost use Rattle.rulebook.specs.Index.{Indexes};
 ghost use Rattle.clause.specs.Sequence.{separated, isUnsupported};
 ghost use Rattle.clause.specs.Steps.{flagBook, Proper, Ready, begun as begunOf, refusedStart, begunAt, startOf, still as stillOf, stopped as stoppedOf, gone as goneOf, behind as behindOf, cleanBehind, onward as onwardOf, nextState, answerOf, keptOf};
 
@@ -180,8 +181,9 @@ fn took(text: &[u8], s: SequenceState, clause: ClauseRecord, end: usize) -> Sequ
 }
 
 // One clause more, where the sequence goes on.
-fn onward(book: &[u8], text: &[u8], s: SequenceState) -> SequenceState
+fn onward(book: &[u8], index: &[u32], text: &[u8], s: SequenceState) -> SequenceState
     requires { ⌜ Ready (now book) (now text) s ⌝ }
+    requires { ⌜ Indexes (now book) (now index) ⌝ }
     ensures { λ r. ⌜ r ≡ onwardOf (bookOf (now (book .entry))) (now (text .entry)) s Progress.Going ⌝ }
 {
     let at = s.at;
@@ -189,24 +191,34 @@ fn onward(book: &[u8], text: &[u8], s: SequenceState) -> SequenceState
         return still(s, Progress::Ended);
     }
     let header = s.header;
-    match single::read_clause(book, header, text, at, s.clean) {
+    match single::read_clause(book, header, index, text, at, s.clean) {
         ClauseRead::Clause(clause, end) => took(text, s, clause, end),
         ClauseRead::Failed(refusal) => judged(s, refusal),
         ClauseRead::Deep(place) => stopped(s, Reason::TooDeep, place),
     }
 }
 
-// The state after one clause more; its record is for the next slot.
-pub fn next_clause(book: &[u8], text: &[u8], s: SequenceState) -> SequenceState
+// The state after one clause more, whose name is looked up by an index; its record is for the next slot.
+pub fn next_by(book: &[u8], index: &[u32], text: &[u8], s: SequenceState) -> SequenceState
     requires { ⌜ Proper (now book) (now text) s ⌝ }
+    requires { ⌜ Indexes (now book) (now index) ⌝ }
     ensures { λ r. ⌜ r ≡ nextState (now (book .entry)) (now (text .entry)) s ⌝ }
 {
     let progress = s.progress;
     match progress {
-        Progress::Going => onward(book, text, s),
+        Progress::Going => onward(book, index, text, s),
         Progress::Ended => still(s, Progress::Ended),
         Progress::Refused(refusal) => still(s, Progress::Refused(refusal)),
     }
+}
+
+// The same with no index.
+pub fn next_clause(book: &[u8], text: &[u8], s: SequenceState) -> SequenceState
+    requires { ⌜ Proper (now book) (now text) s ⌝ }
+    ensures { λ r. ⌜ r ≡ nextState (now (book .entry)) (now (text .entry)) s ⌝ }
+{
+    let none = [0u32; 1];
+    next_by(book, &none[..0], text, s)
 }
 
 // The answer, once a step more than there are slots has told whether a clause is left.

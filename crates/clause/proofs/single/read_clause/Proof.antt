@@ -13,14 +13,15 @@ returns c = rw (c .fails .ensures) (no-word _ _ _ _ (c .before .before .run-end 
 
 looks-up : tie.Need-find-clause-requires
 looks-up c κs =
-    let p = c .before .before .before .before .pre .0 in
-    (valid-form _ (p .0), (p .1 .0, c .before .run-end .ensures .1))
+    let q = c .before .before .before .before .before .pre in
+    let p = q .0 in
+    (valid-form _ (p .0), (p .1 .0, (q .1 .0, c .before .run-end .ensures .1)))
 
 returns-2 : tie.Need-returns-2
 returns-2 c =
-    let a = c .before .before .before .before .before .before .args in
+    let a = c .before .before .before .before .before .before .before .args in
     c .argument .ensures
-    ∙ clause-by (a .book .now) (a .text .now) (a .at) _ (a .header) _ (c .before .before .before .before .before .before .pre .0 .1 .0) (c .before .before .before .run-end .ensures .0) (c .before .before .if1 .left) (c .before .find-clause .ensures)
+    ∙ clause-by (a .book .now) (a .text .now) (a .at) _ (a .header) _ (c .before .before .before .before .before .before .before .pre .0 .1 .0) (c .before .before .before .run-end .ensures .0) (c .before .before .if1 .left) (c .before .find-clause .ensures)
 
 pub read-clause-spec : {M : Type 1} → statement M
 read-clause-spec =
@@ -30,5 +31,5 @@ read-clause-spec =
     (λ c κs. search needs)
     returns
     looks-up
-    (λ c κs. (record { short = c .before .before .before .before .before .pre .0 .1 .1 .0; some-bytes = omega (arith, c .before .if1 .left, c .before .before .run-end .ensures .1); inside = c .before .before .run-end .ensures .1 .1 }, c .before .before .before .before .before .pre .1))
+    (λ c κs. (record { short = c .before .before .before .before .before .before .pre .0 .1 .1 .0; some-bytes = omega (arith, c .before .if1 .left, c .before .before .run-end .ensures .1); inside = c .before .before .run-end .ensures .1 .1 }, c .before .before .before .before .before .before .pre .1 .1))
     returns-2)

@@ -1,28 +1,16 @@
--- `next_clause` meets its contract: each arm is a case of the definition.
+-- `next_clause` meets its contract: a step by an index that is empty.
 -- Assumes nothing.
-use mathlib.Core.Path.{subst, _∙_}
+use mathlib.Core.Path.{refl}
 use borrow.Author.Needs.{needs}
-use Rattle.clause.specs.declared.Progress.{Progress}
-use Rattle.clause.specs.Steps.{WhenGoing, Ready}
-use Rattle.clause.proofs.Reading.{next-by}
+use Rattle.rulebook.proofs.Indexes.{no-index}
 use Rattle.clause.proofs.steps.next_clause.Statement.{statement}
 use Rattle.clause.proofs.steps.next_clause.Tie as tie
-
-goes-on : tie.Need-onward-requires
-goes-on c κs =
-    let a = c .before .before .before .before .args in
-    subst (λ (p : Progress). WhenGoing p (Ready (a .book .now) (a .text .now) (a .s))) (c .enum-told .given .1) (c .before .before .before .before .pre)
 
 pub next-clause-spec : {M : Type 1} → statement M
 next-clause-spec =
     tie.close
     (tie.spec
     (λ c. search needs)
-    goes-on
     (λ c. search needs)
-    (λ c κs. search needs)
-    (λ c. search needs)
-    (λ c κs. search needs)
-    (λ c. let a = c .before .before .before .before .before .args in c .onward .ensures ∙ next-by (a .book .now) (a .text .now) (a .s) _ (c .before .enum-told .given .1))
-    (λ c. let a = c .before .before .before .before .before .args in c .still .ensures ∙ next-by (a .book .now) (a .text .now) (a .s) _ (c .before .enum-told2 .given .1))
-    (λ c. let a = c .before .before .before .before .before .before .args in c .still2 .ensures ∙ next-by (a .book .now) (a .text .now) (a .s) _ (c .before .before .progress .given .1)))
+    (λ c κs. (c .before .before .before .pre, no-index _ _ refl))
+    (λ c. search needs))
