@@ -4,9 +4,9 @@ use mathlib.Core.Path.{_≡_, refl, sym, _∙_, ap}
 use Prim.Native.Nat.{ℕ, zero, suc, _<_, _≤_, _+_, _-_}
 use native.Mathlib.Omega.{arith}
 use native.Mathlib.Numerals.{add-one}
-use mathlib.Core.List.{[], _∷_, _++_, List, append-assoc, append-nil}
+use mathlib.Core.List.{[], _∷_, _++_, List, append-assoc}
 use lib.ListN.{length, set, take, drop, replicate, length-set}
-use lib.Seq.{drop-cons, drop-length, set-at}
+use lib.Seq.{drop-cons, set-at}
 use Rattle.ascii.proofs.Slots.{pushed, complete, zeros-more, zeros-none}
 use Rattle.clause.specs.Clause.{zeroRecord}
 use Rattle.clause.specs.declared.ClauseRecord.{ClauseRecord}
@@ -36,7 +36,7 @@ module _ (bk t : List ℕ) (s : SequenceState) where
       ap (λ (l : List ClauseRecord). stateAt bk t s (suc i) .clause ∷ l)
       (snoc-records (suc i) n ∙ ap (λ (k : ℕ). recordsFrom bk t s (suc i) n ++ (stateAt bk t s (suc k) .clause ∷ [])) e)
 
-  filled-is : (ys : List ClauseRecord) (i : ℕ) → i ≤ length ys → filled ys i ≡ recordsFrom bk t s 0 i ++ drop i ys
+  pub filled-is : (ys : List ClauseRecord) (i : ℕ) → i ≤ length ys → filled ys i ≡ recordsFrom bk t s 0 i ++ drop i ys
   unfolding recordsFrom
   filled-is ys zero h = refl
   filled-is ys (suc i) h =
@@ -47,11 +47,6 @@ module _ (bk t : List ℕ) (s : SequenceState) where
       ∙ set-at (recordsFrom bk t s 0 i) _ (drop (suc i) ys) v i (length-records 0 i)
       ∙ sym (ap (λ (l : List ClauseRecord). l ++ drop (suc i) ys) (snoc-records 0 i ∙ ap (λ (k : ℕ). recordsFrom bk t s 0 i ++ (stateAt bk t s (suc k) .clause ∷ [])) e)
       ∙ append-assoc (recordsFrom bk t s 0 i) (v ∷ []) (drop (suc i) ys))
-
-  pub filled-all : (ys : List ClauseRecord) (i : ℕ) → i ≡ length ys → filled ys i ≡ recordsFrom bk t s 0 (length ys)
-  filled-all ys i e =
-      ap (filled ys) e ∙ filled-is ys (length ys) (omega arith)
-      ∙ ap (λ (l : List ClauseRecord). recordsFrom bk t s 0 (length ys) ++ l) (drop-length ys) ∙ append-nil (recordsFrom bk t s 0 (length ys))
 
   pub at-start : s ≡ stateAt bk t s 0
   unfolding stateAt

@@ -3,6 +3,7 @@ pub mod Rest
 pub mod Appended
 pub mod Walking
 pub mod Filling
+pub mod Stopping
 pub mod Lending
 pub mod Properness
 pub mod Sequencing

@@ -1,6 +1,6 @@
 -- The sequence step by step: a state by value, the state after one clause more, and the record that each step gives to its slot.
 use Prim.Native.Nat.{ℕ, zero, suc, _+_, _-_, _≤_, _<_}
-use mathlib.Core.Bool.{Bool, false, cond, _&&_}
+use mathlib.Core.Bool.{Bool, true, false, cond, _&&_}
 use mathlib.Core.Option.{Option, some, none}
 use mathlib.Core.Path.{_≡_}
 use mathlib.Core.List.{List, [], _∷_}
@@ -121,6 +121,12 @@ abbrev pub onward : Book → List ℕ → SequenceState → Progress → Sequenc
 onward book text s Going = cond (eqb (s .at) (length text)) (still s Ended) (taken book text s (clauseAt book text (s .at)))
 onward book text s Ended = still s Ended
 onward book text s (Refused r) = still s (Refused r)
+
+-- more is to be read
+abbrev pub isGoing : Progress → Bool
+isGoing Going = true
+isGoing Ended = false
+isGoing (Refused r) = false
 
 -- the state after a step: one clause more, or the end of the list
 unfoldable pub nextState : List ℕ → List ℕ → SequenceState → SequenceState

@@ -12,6 +12,7 @@ ghost use Rattle.clause.specs.Calls.{sequenceGives, SequenceCall};
 ghost use Rattle.clause.specs.Steps.{Proper, Started, stateAt, recordsFrom, readOn, settled};
 
 // Every slot gets the record of its step, a zeroed one once the list has ended. The result is the state after the last.
+// The first step that does not go on is the last that is made: from there on nothing but zeroed records would come.
 pub fn fill_records(
     book: &[u8],
     text: &[u8],
@@ -24,11 +25,14 @@ pub fn fill_records(
 {
     let mut s = start;
     let mut i = 0;
-    while i < records.len() {
+    let mut stop = records.len();
+    while i < stop {
         s = steps::next_clause(book, text, s);
         records[i] = s.clause;
         i += 1;
+        stop = steps::stop_before(s, i, stop);
     }
+    clear_records(records, i);
     s
 }
 

@@ -28,7 +28,7 @@ ghost use Rattle.rulebook.specs.Book.{bookOf};
 ghost use Rattle.rulebook.specs.Check.{bookFault};
 ghost use Rattle.rulebook.specs.Index.{Indexes};
 ghost use Rattle.clause.specs.Sequence.{separated, isUnsupported};
-ghost use Rattle.clause.specs.Steps.{flagBook, Proper, Ready, begun as begunOf, refusedStart, begunAt, startOf, still as stillOf, stopped as stoppedOf, gone as goneOf, behind as behindOf, cleanBehind, onward as onwardOf, nextState, answerOf, keptOf};
+ghost use Rattle.clause.specs.Steps.{flagBook, Proper, Ready, begun as begunOf, refusedStart, begunAt, startOf, still as stillOf, stopped as stoppedOf, gone as goneOf, behind as behindOf, cleanBehind, onward as onwardOf, nextState, isGoing, answerOf, keptOf};
 
 fn begun(header: Header, progress: Progress, at: usize, slots: usize, clean: usize) -> SequenceState
     ensures { λ r. ⌜ r ≡ begunOf header progress at slots clean ⌝ }
@@ -219,6 +219,25 @@ pub fn next_clause(book: &[u8], text: &[u8], s: SequenceState) -> SequenceState
 {
     let none = [0u32; 1];
     next_by(book, &none[..0], text, s)
+}
+
+// Whether more is to be read.
+pub fn goes_on(progress: Progress) -> bool
+    ensures { λ r. ⌜ r ≡ isGoing progress ⌝ }
+{
+    match progress {
+        Progress::Going => true,
+        Progress::Ended => false,
+        Progress::Refused(_) => false,
+    }
+}
+
+// Before which slot the steps stop: as it was while the list goes on, and the next slot once it does not.
+pub fn stop_before(s: SequenceState, next: usize, stop: usize) -> usize
+    ensures { λ r. ⌜ r ≡ cond (isGoing (s .progress)) stop next ⌝ }
+{
+    let progress = s.progress;
+    if goes_on(progress) { stop } else { next }
 }
 
 // The answer, once a step more than there are slots has told whether a clause is left.

@@ -16,14 +16,14 @@ use Rattle.clause.specs.declared.Progress.{Progress}
 use Rattle.clause.specs.declared.Progress.the-variants as Progress
 use Rattle.clause.specs.Clause.{zeroRecord}
 use Rattle.clause.specs.Calls.{SequenceCall, counted, sequenceGives}
-use Rattle.clause.specs.Steps.{Proper, Started, onward, nextState, stateAt, recordsFrom, answerBy, answerOf, keptOf, readOn}
+use Rattle.clause.specs.Steps.{Proper, Started, onward, isGoing, nextState, stateAt, recordsFrom, answerBy, answerOf, keptOf, readOn}
 use Rattle.clause.proofs.Properness.{proper-at}
 use Rattle.clause.proofs.Sequencing.{settles}
 use Rattle.reader.specs.declared.Head.{Head}
 use Rattle.reader.specs.declared.LineAnswer.{LineAnswer}
 use Rattle.reader.specs.Line.{Parsed, lineAnswer}
 use Rattle.reader.specs.Calls.{readingOf, lineCall, lineGives, lineWithin}
-use Rattle.reader.specs.Steps.{HeadGives, answered, isGoing}
+use Rattle.reader.specs.Steps.{HeadGives, answered}
 use Rattle.reader.proofs.Settled.{answer-given}
 
 abbrev Answers : SequenceAnswer → SequenceState → Type 0

@@ -1,6 +1,6 @@
 -- The whole line by steps: the checks before it is joined, what stands once the name is read, and what is left once the clauses are.
 use Prim.Native.Nat.{ℕ, _+_, _≤_}
-use mathlib.Core.Bool.{Bool, true, false, cond, not}
+use mathlib.Core.Bool.{Bool, cond, not}
 use mathlib.Core.Path.{_≡_}
 use mathlib.Core.List.{List}
 use lib.ListN.{length, take}
@@ -15,8 +15,6 @@ use Rattle.lexer.specs.declared.Prefix.{Prefix}
 use Rattle.source.specs.Validation.{fault}
 use Rattle.source.specs.Joining.{joinedText, joinedMap}
 use Rattle.source.specs.Calls.{isShort}
-use Rattle.clause.specs.declared.Progress.{Progress}
-use Rattle.clause.specs.declared.Progress.the-variants as Progress
 use Rattle.clause.specs.declared.SequenceAnswer.{SequenceAnswer}
 use Rattle.clause.specs.declared.SequenceAnswer.the-variants as SequenceAnswer
 use Rattle.clause.specs.Sequence.{Sequence}
@@ -82,9 +80,3 @@ abbrev pub answered : DirectiveName → SequenceAnswer → LineAnswer
 answered n (SequenceAnswer.Read s) =
     LineAnswer.Read (record { entry = n .entry; «name_start» = n .start; «name_end» = n .end; count = s .count; rest = s .rest })
 answered n (SequenceAnswer.Refused r) = LineAnswer.Refused r
-
--- more is to be read
-abbrev pub isGoing : Progress → Bool
-isGoing Progress.Going = true
-isGoing Progress.Ended = false
-isGoing (Progress.Refused r) = false

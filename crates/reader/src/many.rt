@@ -1,7 +1,6 @@
 // The answer of a line under a book that was checked: for calls that read many lines under one check.
 use crate::LineAnswer;
 use crate::heading;
-use clause::Progress;
 use clause::SequenceAnswer;
 use clause::SequenceState;
 use clause::steps;
@@ -15,18 +14,6 @@ ghost use Rattle.rulebook.specs.Check.{Stands};
 ghost use Rattle.clause.specs.Calls.{counted, sequenceGives};
 ghost use Rattle.clause.specs.Steps.{Started, readOn};
 ghost use Rattle.reader.specs.Calls.{lineCall, lineGives};
-ghost use Rattle.reader.specs.Steps.{isGoing};
-
-// Whether more is to be read.
-fn goes_on(progress: Progress) -> bool
-    ensures { λ r. ⌜ r ≡ isGoing progress ⌝ }
-{
-    match progress {
-        Progress::Going => true,
-        Progress::Ended => false,
-        Progress::Refused(_) => false,
-    }
-}
 
 // The answer of the clauses from a state on, with so many slots. Each clause's record is made, and not kept.
 fn count_clauses(book: &[u8], text: &[u8], start: SequenceState, slots: usize) -> SequenceAnswer
@@ -38,7 +25,7 @@ fn count_clauses(book: &[u8], text: &[u8], start: SequenceState, slots: usize) -
     while i < slots {
         s = steps::next_clause(book, text, s);
         let progress = s.progress;
-        let more = goes_on(progress);
+        let more = steps::goes_on(progress);
         if more {
             i += 1;
         } else {
