@@ -8,6 +8,7 @@ pub mod Lending
 pub mod Properness
 pub mod Sequencing
 pub mod Starting
+pub mod Counting
 pub mod Extents
 pub mod Cleanness
 pub mod Reading

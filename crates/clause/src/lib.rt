@@ -1,4 +1,5 @@
 // Clauses: one clause under a book's rule, and the sequence of clauses.
+pub mod many;
 pub mod records;
 pub mod single;
 pub mod steps;

@@ -25,6 +25,7 @@ ghost use lib.ListN.{length, take, replicate};
 ghost use Rattle.refusal.specs.Answer.{andThen, maxLength};
 ghost use Rattle.rulebook.specs.Book.{bookOf, headerOf};
 ghost use Rattle.rulebook.specs.Check.{bookFault, HasForm, Stands};
+ghost use Rattle.rulebook.specs.Index.{Looked, Indexes};
 ghost use Rattle.clause.specs.Steps.{keptOf};
 ghost use Rattle.directive.specs.Name.{nameAt, nameGives};
 ghost use Rattle.reader.specs.Line.{opening as openingOf, parsed};
@@ -52,15 +53,17 @@ fn read_name(
     prefix: Prefix,
     book: &[u8],
     header: Header,
+    index: &[u32],
     text: &[u8],
 ) -> NameAnswer
     requires { ⌜ HasForm (now book) ⌝ }
     requires { ⌜ header ≡ headerOf (now book) ⌝ }
+    requires { ⌜ Looked (header .directives) (now book) (now index) ⌝ }
     ensures { λ r. ⌜ nameGives r ≡ andThen (openingOf language prefix (now (text .entry))) (nameAt (bookOf (now (book .entry))) (now (text .entry))) ⌝ }
 {
     match opening::opening(language, prefix, text) {
         Step::Refused(why) => NameAnswer::Refused(why),
-        Step::At(cursor) => directive::lex_name(book, header, text, cursor.at),
+        Step::At(cursor) => directive::lex_name(book, header, index, text, cursor.at),
     }
 }
 
@@ -70,15 +73,17 @@ fn head_of(
     prefix: Prefix,
     book: &[u8],
     header: Header,
+    index: &[u32],
     text: &[u8],
     slots: usize,
 ) -> Head
     requires { ⌜ bookFault (now book) ≡ none ⌝ }
     requires { ⌜ header ≡ headerOf (now book) ⌝ }
+    requires { ⌜ Indexes (now book) (now index) ⌝ }
     requires { ⌜ length (now text) ≤ maxLength ⌝ }
     ensures { λ r. ⌜ Heads (now (book .entry)) (now (text .entry)) slots (parsed (bookOf (now (book .entry))) language prefix slots (now (text .entry))) r ⌝ }
 {
-    match read_name(language, prefix, book, header, text) {
+    match read_name(language, prefix, book, header, index, text) {
         NameAnswer::Refused(why) => refused_head(why),
         NameAnswer::Found(name) => Head {
             name,
@@ -95,12 +100,14 @@ pub fn head_under(
     prefix: Prefix,
     book: &[u8],
     checked: CheckedBook,
+    index: &[u32],
     line: &[u8],
     text: &mut [u8],
     map: &mut [u16],
     slots: usize,
 ) -> Head
     requires { ⌜ Stands (now book) checked ⌝ }
+    requires { ⌜ Indexes (now book) (now index) ⌝ }
     ensures { λ r. ⌜ HeadGives language prefix (now (book .entry)) (now (line .entry)) slots (now (text .exit)) (now (map .exit)) r ⌝ }
 {
     let verdict = checked.verdict;
@@ -114,7 +121,7 @@ pub fn head_under(
         return refused_head(why);
     }
     let n = joining::join_into(language, line, text, map);
-    head_of(language, prefix, book, header, &text[..n], slots)
+    head_of(language, prefix, book, header, index, &text[..n], slots)
 }
 
 // The same with the book checked here.
@@ -129,8 +136,9 @@ pub fn read_head(
 ) -> Head
     ensures { λ r. ⌜ HeadGives language prefix (now (book .entry)) (now (line .entry)) slots (now (text .exit)) (now (map .exit)) r ⌝ }
 {
-    let checked = rulebook::checked(book);
-    head_under(language, prefix, book, checked, line, text, map, slots)
+    let mut index = [0u32; 1024];
+    let checked = rulebook::checked(book, &mut index);
+    head_under(language, prefix, book, checked, &index, line, text, map, slots)
 }
 
 // The joined text that stands.
