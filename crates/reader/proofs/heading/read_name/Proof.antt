@@ -21,6 +21,6 @@ read-name-spec =
     (λ c κs. search needs)
     (λ c. search needs)
     (λ c. search needs)
-    (λ c κs. (search needs, (search needs, subst (Forward _ _) (c .before .cursor .given .1) (c .before .before .before .opening .ensures .1) .1)))
+    (λ c κs. (search needs, (search needs, (search needs, subst (Forward _ _) (c .before .cursor .given .1) (c .before .before .before .opening .ensures .1) .1))))
     returns
     returns-2)
