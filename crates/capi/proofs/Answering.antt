@@ -1,4 +1,4 @@
--- Laws of the answers of many lines, by the code's own terms: the next line answers, no line is left, no slot is.
+-- Laws of the answers of many lines or texts, by the code's own terms: the next line answers, no line is left, no slot is.
 -- Assumes nothing.
 use Prim.Native.Nat.{ℕ, suc, _+_, _-_, _≤_, _<_}
 use mathlib.Core.Path.{_≡_, refl, _∙_}
@@ -8,46 +8,44 @@ use native.Mathlib.Omega.{arith}
 use lib.ListN.{length, take, drop, set, replicate, getD, drop-of-length-le}
 use lib.Seq.{drop-cons}
 use Rattle.ascii.proofs.Slots.{pushed, complete}
-use Rattle.lexer.specs.declared.Language.{Language}
-use Rattle.lexer.specs.declared.Prefix.{Prefix}
-use Rattle.capi.specs.Lines.{endOf, noLine, answerBetween, answersFrom}
+use Rattle.capi.specs.Lines.{endOf, answersFrom}
 
-module _ (l : Language) (p : Prefix) (book lines : List ℕ) (ts ms rs n i at : ℕ) (ends : List ℕ) where
+module _ (answer : ℕ → ℕ → List ℕ) (zeros : List ℕ) (size n i at : ℕ) (ends : List ℕ) where
   next-answer : i < n → i < length ends
-      → answersFrom l p book lines ts ms rs (n - i) at (drop i ends)
-      ≡ answerBetween l p book lines ts ms rs at (endOf (length lines) at (getD ends i 0)) ∷ answersFrom l p book lines ts ms rs (n - (i + 1)) (endOf (length lines) at (getD ends i 0)) (drop (i + 1) ends)
+      → answersFrom answer zeros size (n - i) at (drop i ends)
+      ≡ answer at (endOf size at (getD ends i 0)) ∷ answersFrom answer zeros size (n - (i + 1)) (endOf size at (getD ends i 0)) (drop (i + 1) ends)
   unfolding answersFrom
   next-answer h k =
       let e : n - i ≡ suc (n - (i + 1)) = omega arith in
       rw (e, add-one, drop-cons ends i 0) refl
 
   no-line : i < n → length ends ≤ i
-      → answersFrom l p book lines ts ms rs (n - i) at (drop i ends) ≡ noLine ∷ answersFrom l p book lines ts ms rs (n - (i + 1)) at (drop (i + 1) ends)
+      → answersFrom answer zeros size (n - i) at (drop i ends) ≡ zeros ∷ answersFrom answer zeros size (n - (i + 1)) at (drop (i + 1) ends)
   unfolding answersFrom
   no-line h k =
       let e : n - i ≡ suc (n - (i + 1)) = omega arith in
       let k′ : length ends ≤ i + 1 = omega arith in
       rw (e, drop-of-length-le ends k, drop-of-length-le ends k′) refl
 
-  no-slot : n ≤ i → answersFrom l p book lines ts ms rs (n - i) at (drop i ends) ≡ []
+  no-slot : n ≤ i → answersFrom answer zeros size (n - i) at (drop i ends) ≡ []
   unfolding answersFrom
   no-slot h =
       let e : n - i ≡ 0 = omega arith in
       rw e refl
 
   -- a slot is filled: by the next line's answer, or by zeros
-  pub fills : (answers whole : List (List ℕ)) (stop : ℕ) (code : List ℕ) → i < n → i < length ends → i < length answers → stop ≡ endOf (length lines) at (getD ends i 0)
-      → code ≡ answerBetween l p book lines ts ms rs at stop
-      → take i answers ++ answersFrom l p book lines ts ms rs (n - i) at (drop i ends) ≡ whole
-      → take (i + 1) (set answers i code) ++ answersFrom l p book lines ts ms rs (n - (i + 1)) stop (drop (i + 1) ends) ≡ whole
+  pub fills : (answers whole : List (List ℕ)) (stop : ℕ) (code : List ℕ) → i < n → i < length ends → i < length answers → stop ≡ endOf size at (getD ends i 0)
+      → code ≡ answer at stop
+      → take i answers ++ answersFrom answer zeros size (n - i) at (drop i ends) ≡ whole
+      → take (i + 1) (set answers i code) ++ answersFrom answer zeros size (n - (i + 1)) stop (drop (i + 1) ends) ≡ whole
   fills answers whole stop code h k f e d inv = rw (pushed, f, d, e) (rw (next-answer h k) at inv)
 
   pub clears : (answers whole : List (List ℕ)) → i < n → length ends ≤ i → i < length answers
-      → take i answers ++ answersFrom l p book lines ts ms rs (n - i) at (drop i ends) ≡ whole
-      → take (i + 1) (set answers i noLine) ++ answersFrom l p book lines ts ms rs (n - (i + 1)) at (drop (i + 1) ends) ≡ whole
+      → take i answers ++ answersFrom answer zeros size (n - i) at (drop i ends) ≡ whole
+      → take (i + 1) (set answers i zeros) ++ answersFrom answer zeros size (n - (i + 1)) at (drop (i + 1) ends) ≡ whole
   clears answers whole h k f inv = rw (pushed, f) (rw (no-line h k) at inv)
 
-  pub filled : (answers whole : List (List ℕ)) → n ≤ i → length answers ≤ i → take i answers ++ answersFrom l p book lines ts ms rs (n - i) at (drop i ends) ≡ whole → answers ≡ whole
+  pub filled : (answers whole : List (List ℕ)) → n ≤ i → length answers ≤ i → take i answers ++ answersFrom answer zeros size (n - i) at (drop i ends) ≡ whole → answers ≡ whole
   filled answers whole h k inv = rw (no-slot h, complete, k) at inv
 
 -- slots that are zeroed from the front on

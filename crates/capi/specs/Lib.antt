@@ -1,2 +1,3 @@
 pub mod Coded
 pub mod Lines
+pub mod Sequences

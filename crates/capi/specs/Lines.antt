@@ -11,20 +11,20 @@ use Rattle.capi.specs.Coded.{codedReading}
 abbrev pub endOf : ℕ → ℕ → ℕ → ℕ
 endOf size at end = max at (min end size)
 
+-- so many answers, of lines that start where the one before has ended; a slot with no line holds zeros
+unfoldable pub answersFrom : (ℕ → ℕ → List ℕ) → List ℕ → ℕ → ℕ → ℕ → List ℕ → List (List ℕ)
+answersFrom answer zeros size zero at ends = []
+answersFrom answer zeros size (suc n) at [] = zeros ∷ answersFrom answer zeros size n at []
+answersFrom answer zeros size (suc n) at (end ∷ ends) = answer at (endOf size at end) ∷ answersFrom answer zeros size n (endOf size at end) ends
+
+-- the answer of the line from one place to another
+unfoldable pub lineBetween : Language → Prefix → List ℕ → List ℕ → ℕ → ℕ → ℕ → ℕ → ℕ → List ℕ
+unfolding lineWithin
+lineBetween l p book lines textSlots mapSlots recordSlots at stop =
+    codedReading (lineCall l p book (take (stop - at) (drop at lines)) textSlots mapSlots recordSlots .answer)
+
 abbrev pub noLine : List ℕ
 noLine = 0 ∷ 0 ∷ 0 ∷ 0 ∷ 0 ∷ []
-
-module _ (l : Language) (p : Prefix) (book lines : List ℕ) (textSlots mapSlots recordSlots : ℕ) where
-  -- the answer of the line from one place to another
-  abbrev pub answerBetween : ℕ → ℕ → List ℕ
-  answerBetween at stop = codedReading (lineCall l p book (take (stop - at) (drop at lines)) textSlots mapSlots recordSlots .answer)
-
-  -- so many answers, of lines that start where the one before has ended; a slot with no line holds zeros
-  unfoldable pub answersFrom : ℕ → ℕ → List ℕ → List (List ℕ)
-  unfolding lineWithin
-  answersFrom zero at ends = []
-  answersFrom (suc n) at [] = noLine ∷ answersFrom n at []
-  answersFrom (suc n) at (end ∷ ends) = answerBetween at (endOf (length lines) at end) ∷ answersFrom n (endOf (length lines) at end) ends
 
 pub record LinesCall : Type 0 where
   pub count : ℕ
@@ -38,5 +38,5 @@ linesCall l p book lines ends textSlots mapSlots recordSlots answerSlots = recor
   count = min (length ends) answerSlots;
   text = replicate textSlots 0;
   map = replicate mapSlots 0;
-  answers = answersFrom l p book lines textSlots mapSlots recordSlots answerSlots 0 ends;
+  answers = answersFrom (lineBetween l p book lines textSlots mapSlots recordSlots) noLine (length lines) answerSlots 0 ends;
 }

@@ -1,5 +1,6 @@
 // The public calls for programs in C and Rust: numbers and slices only, and an answer that is one number (include/pelzurda.h).
 mod lines;
+mod sequences;
 
 use clause::ClauseRecord;
 use clause::SequenceAnswer;
@@ -24,6 +25,7 @@ ghost use Rattle.rulebook.specs.Check.{bookCall};
 ghost use Rattle.clause.specs.Calls.{sequenceCall, sequenceGives};
 ghost use Rattle.reader.specs.Calls.{lineCall, lineGives};
 ghost use Rattle.capi.specs.Lines.{LinesCall, linesCall};
+ghost use Rattle.capi.specs.Sequences.{SequencesCall, sequencesCall};
 ghost use Rattle.capi.specs.Coded.{coded, codedYes, codedRefusal, codedSequence, SequenceCoded, sequenceCoded, codedLine, LineCoded, lineCoded, placeCode, restOf, readingNumbers, spanEnds, rangeEnds, isSet, languageOf, prefixOf, separatorOf};
 
 fn place_code(place: usize) -> u64
@@ -261,7 +263,8 @@ pub extern "C" fn pelzurda_lines(
     ensures { λ r. ⌜ record { count = r; text = now (text .exit); map = now (map .exit); answers = now (answers .exit) }
         ≡ linesCall (languageOf language) (prefixOf prefix) (now (book .entry)) (now (lines .entry)) (now (ends .entry)) (length (now (text .entry))) (length (now (map .entry))) slots (length (now (answers .entry))) ⌝ }
 {
-    let checked = rulebook::checked(book);
+    let mut index = [0u32; 1024];
+    let checked = rulebook::checked(book, &mut index);
     let spoken = language_of(language);
     let sought = prefix_of(prefix);
     lines::answer_lines(
@@ -269,6 +272,7 @@ pub extern "C" fn pelzurda_lines(
         sought,
         book,
         checked,
+        &index,
         lines,
         ends,
         text,
@@ -278,5 +282,24 @@ pub extern "C" fn pelzurda_lines(
     );
     refusal::clear_bytes(text, 0);
     refusal::clear_words(map, 0);
+    lines::lesser(ends.len(), answers.len()) as u64
+}
+
+// Many clause sequences under one check of the book: the number of texts that were answered, each in its slot. Text i ends at its end number, and starts
+// where the one before has ended; its slot holds its count of clauses and the place of its unread rest. So many record slots a text may take.
+#[no_mangle]
+pub extern "C" fn pelzurda_sequences(
+    book: &[u8],
+    texts: &[u8],
+    ends: &[usize],
+    slots: usize,
+    answers: &mut [[u64; 2]],
+) -> u64
+    ensures { λ r. ⌜ record { count = r; answers = now (answers .exit) }
+        ≡ sequencesCall (now (book .entry)) (now (texts .entry)) (now (ends .entry)) slots (length (now (answers .entry))) ⌝ }
+{
+    let mut index = [0u32; 1024];
+    let checked = rulebook::checked(book, &mut index);
+    sequences::answer_sequences(book, checked, &index, texts, ends, slots, answers);
     lines::lesser(ends.len(), answers.len()) as u64
 }

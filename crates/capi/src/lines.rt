@@ -9,9 +9,10 @@ ghost use mathlib.Core.Path.{_≡_};
 ghost use Prim.Native.Nat.{_≤_, min};
 ghost use lib.ListN.{length};
 ghost use Rattle.rulebook.specs.Check.{Stands};
+ghost use Rattle.rulebook.specs.Index.{Indexes};
 ghost use Rattle.reader.specs.Calls.{lineGives};
 ghost use Rattle.capi.specs.Coded.{codedReading};
-ghost use Rattle.capi.specs.Lines.{endOf, answersFrom};
+ghost use Rattle.capi.specs.Lines.{endOf, noLine, lineBetween, answersFrom};
 
 // A line's answer as five numbers.
 fn line_numbers(answer: LineAnswer) -> [u64; 5]
@@ -35,7 +36,7 @@ fn line_numbers(answer: LineAnswer) -> [u64; 5]
 }
 
 // Where a line ends that starts at a place: no earlier, and not behind the bytes.
-fn line_end(size: usize, at: usize, end: usize) -> usize
+pub fn line_end(size: usize, at: usize, end: usize) -> usize
     requires { ⌜ at ≤ size ⌝ }
     ensures { λ r. ⌜ (r ≡ endOf size at end) × (at ≤ r) × (r ≤ size) ⌝ }
 {
@@ -51,6 +52,7 @@ pub fn answer_lines(
     prefix: Prefix,
     book: &[u8],
     checked: CheckedBook,
+    index: &[u32],
     lines: &[u8],
     ends: &[usize],
     text: &mut [u8],
@@ -59,8 +61,10 @@ pub fn answer_lines(
     answers: &mut [[u64; 5]],
 )
     requires { ⌜ Stands (now book) checked ⌝ }
+    requires { ⌜ Indexes (now book) (now index) ⌝ }
     ensures { λ _. ⌜ now (answers .exit)
-        ≡ answersFrom language prefix (now (book .entry)) (now (lines .entry)) (length (now (text .entry))) (length (now (map .entry))) slots (length (now (answers .entry))) 0 (now (ends .entry)) ⌝ }
+        ≡ answersFrom (lineBetween language prefix (now (book .entry)) (now (lines .entry)) (length (now (text .entry))) (length (now (map .entry))) slots) noLine
+        (length (now (lines .entry))) (length (now (answers .entry))) 0 (now (ends .entry)) ⌝ }
 {
     let mut at = 0;
     let mut i = 0;
@@ -68,7 +72,9 @@ pub fn answer_lines(
         if i < ends.len() {
             let stop = line_end(lines.len(), at, ends[i]);
             let line = &lines[at..stop];
-            let answer = many::line_answer(language, prefix, book, checked, line, text, map, slots);
+            let answer = many::line_answer(
+                language, prefix, book, checked, index, line, text, map, slots,
+            );
             let numbers = line_numbers(answer);
             answers[i] = numbers;
             at = stop;

@@ -7,59 +7,60 @@ use native.Mathlib.Omega.{arith}
 use lib.ListN.{length, take, drop, length-set}
 use borrow.Author.Needs.{needs}
 use Rattle.capi.specs.Coded.{codedReading}
-use Rattle.capi.specs.Lines.{answerBetween, answersFrom}
+use Rattle.capi.specs.Lines.{lineBetween, noLine, answersFrom}
 use Rattle.capi.proofs.Answering.{fills, clears, filled}
 use Rattle.capi.proofs.lines.answer_lines.Statement.{statement}
 use Rattle.capi.proofs.lines.answer_lines.Tie as tie
 
 abbrev Inv-loop : tie.InvT-loop
-Inv-loop language prefix book checked lines ends text₀ map₀ slots answers₀ at₀ i₀ text places answers at i =
+Inv-loop language prefix book checked index lines ends text₀ map₀ slots answers₀ at₀ i₀ text places answers at i =
     (at ≤ length lines)
     × (i ≤ length answers₀)
     × (length text ≡ length text₀)
     × (length places ≡ length map₀)
     × (length answers ≡ length answers₀)
-    × (take i answers ++ answersFrom language prefix book lines (length text₀) (length map₀) slots (length answers₀ - i) at (drop i ends)
-    ≡ answersFrom language prefix book lines (length text₀) (length map₀) slots (length answers₀) 0 ends)
+    × (take i answers ++ answersFrom (lineBetween language prefix book lines (length text₀) (length map₀) slots) noLine (length lines) (length answers₀ - i) at (drop i ends)
+    ≡ answersFrom (lineBetween language prefix book lines (length text₀) (length map₀) slots) noLine (length lines) (length answers₀) 0 ends)
 
 abbrev μ-loop : tie.MeasureT-loop
-μ-loop language prefix book checked lines ends text₀ map₀ slots answers₀ at₀ i₀ text places answers at i = length answers₀ - i
+μ-loop language prefix book checked index lines ends text₀ map₀ slots answers₀ at₀ i₀ text places answers at i = length answers₀ - i
 
 loop-again : tie.Need-loop-again Inv-loop μ-loop
+unfolding lineBetween
 loop-again c =
-    let a = c .before .before .before .before .before .before .before .before .before .before .before .before .before .before .before .before .before .before .before .args in
+    let a = c .before .before .before .before .before .before .before .before .before .before .before .before .before .before .before .before .before .before .before .before .args in
     let l = c .before .before .before .before .before .before .before .before .before .before .before .before .before .loop in
     let answer = c .before .before .before .before .before .line-answer in
     let stop = c .before .before .before .before .before .before .before .before .before .line-end in
-    let code : c .line-numbers .result ≡ answerBetween (a .language) (a .prefix) (a .book .now) (a .lines .now) (length (a .text .now)) (length (a .map .now)) (a .slots) (l .at) (stop .result)
+    let code : c .line-numbers .result ≡ lineBetween (a .language) (a .prefix) (a .book .now) (a .lines .now) (length (a .text .now)) (length (a .map .now)) (a .slots) (l .at) (stop .result)
     = rw (l .inv .2, l .inv .3) at (c .line-numbers .ensures ∙ ap codedReading (answer .ensures)) in (
       omega (arith, stop .ensures .2),
       omega arith,
       omega arith,
       omega arith,
       simp length-set (omega arith),
-      fills (a .language) (a .prefix) (a .book .now) (a .lines .now) (length (a .text .now)) (length (a .map .now)) (a .slots) (length (a .answers .now)) (l .i) (l .at) (a .ends .now) (l .answers) _
+      fills (lineBetween (a .language) (a .prefix) (a .book .now) (a .lines .now) (length (a .text .now)) (length (a .map .now)) (a .slots)) noLine (length (a .lines .now)) (length (a .answers .now)) (l .i) (l .at) (a .ends .now) (l .answers) _
           (stop .result) (c .line-numbers .result) (omega arith) (omega arith) (omega arith) (stop .ensures .0) code (l .inv .5),
     )
 
 loop-again-2 : tie.Need-loop-again-2 Inv-loop μ-loop
 loop-again-2 c =
-    let a = c .before .before .before .before .before .before .before .before .args in
+    let a = c .before .before .before .before .before .before .before .before .before .args in
     let l = c .before .before .loop in (
       omega arith,
       omega arith,
       omega arith,
       omega arith,
       simp length-set (omega arith),
-      clears (a .language) (a .prefix) (a .book .now) (a .lines .now) (length (a .text .now)) (length (a .map .now)) (a .slots) (length (a .answers .now)) (l .i) (l .at) (a .ends .now) (l .answers) _
+      clears (lineBetween (a .language) (a .prefix) (a .book .now) (a .lines .now) (length (a .text .now)) (length (a .map .now)) (a .slots)) noLine (length (a .lines .now)) (length (a .answers .now)) (l .i) (l .at) (a .ends .now) (l .answers) _
           (omega arith) (omega arith) (omega arith) (l .inv .5),
     )
 
 returns : tie.Need-returns Inv-loop μ-loop
 returns c =
-    let a = c .before .before .before .before .before .before .before .args in
+    let a = c .before .before .before .before .before .before .before .before .args in
     let l = c .before .loop in
-    filled (a .language) (a .prefix) (a .book .now) (a .lines .now) (length (a .text .now)) (length (a .map .now)) (a .slots) (length (a .answers .now)) (l .i) (l .at) (a .ends .now) (l .answers) _ (omega arith) (omega arith) (l .inv .5)
+    filled (lineBetween (a .language) (a .prefix) (a .book .now) (a .lines .now) (length (a .text .now)) (length (a .map .now)) (a .slots)) noLine (length (a .lines .now)) (length (a .answers .now)) (l .i) (l .at) (a .ends .now) (l .answers) _ (omega arith) (omega arith) (l .inv .5)
 
 pub answer-lines-spec : {M : Type 1} → statement M
 answer-lines-spec =
@@ -67,7 +68,7 @@ answer-lines-spec =
     (tie.spec
     Inv-loop
     μ-loop
-    (λ c. let n = length (c .before .before .before .before .before .args .answers .now) in let e : n - 0 ≡ n = omega arith in
+    (λ c. let n = length (c .before .before .before .before .before .before .args .answers .now) in let e : n - 0 ≡ n = omega arith in
     (omega arith, omega arith, refl, refl, refl, rw e refl))
     (λ c. omega arith)
     (λ c. omega arith)
@@ -75,11 +76,11 @@ answer-lines-spec =
     (λ c. omega (arith, c .line-end .ensures .1))
     (λ c. omega (arith, c .line-end .ensures .1))
     (λ c. omega (arith, c .line-end .ensures .2))
-    (λ c κs. c .before .before .before .before .before .before .before .before .before .before .before .before .before .pre)
+    (λ c κs. c .before .before .before .before .before .before .before .before .before .before .before .before .before .before .pre)
     (λ c κs. search needs)
-    (λ c. omega (arith, c .before .before .before .before .before .before .before .before .before .before .before .before .loop-test .taken, c .before .before .before .before .before .before .before .before .before .before .before .before .before .loop .inv .4, c .before .before .before .before .before .before .before .before .before .before .before .before .before .before .before .before .before .before .before .good .1 .1 .1 .1 .1 .1 .1 .1 .1 .0 .0, c .before .before .before .before .before .before .before .before .before .before .before .before .before .before .before .before .before .before .before .good .1 .1 .1 .1 .1 .1 .1 .1 .1 .0 .1))
+    (λ c. omega (arith, c .before .before .before .before .before .before .before .before .before .before .before .before .loop-test .taken, c .before .before .before .before .before .before .before .before .before .before .before .before .before .loop .inv .4, c .before .before .before .before .before .before .before .before .before .before .before .before .before .before .before .before .before .before .before .before .good .1 .1 .1 .1 .1 .1 .1 .1 .1 .1 .0 .0, c .before .before .before .before .before .before .before .before .before .before .before .before .before .before .before .before .before .before .before .before .good .1 .1 .1 .1 .1 .1 .1 .1 .1 .1 .0 .1))
     (λ c. omega arith)
-    (λ c. omega arith)
+    (λ c. omega (arith, c .before .before .before .before .before .before .before .before .before .before .before .before .loop-test .taken, c .before .before .before .before .before .before .before .before .before .before .before .before .before .loop .inv .4, c .before .before .before .before .before .before .before .before .before .before .before .before .before .before .before .before .before .before .before .before .good .1 .1 .1 .1 .1 .1 .1 .1 .1 .1 .0 .0, c .before .before .before .before .before .before .before .before .before .before .before .before .before .before .before .before .before .before .before .before .good .1 .1 .1 .1 .1 .1 .1 .1 .1 .1 .0 .1))
     (λ c. omega arith)
     loop-again
     (λ c. omega arith)
