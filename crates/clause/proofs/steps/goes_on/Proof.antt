@@ -1,10 +1,10 @@
--- `reader::many::goes_on` meets its contract: each arm is the case of its progress.
+-- `goes_on` meets its contract: each arm is the case of its progress.
 -- Assumes nothing.
 use mathlib.Core.Path.{sym, ap}
 use borrow.Author.Needs.{needs}
-use Rattle.reader.specs.Steps.{isGoing}
-use Rattle.reader.proofs.many.goes_on.Statement.{statement}
-use Rattle.reader.proofs.many.goes_on.Tie as tie
+use Rattle.clause.specs.Steps.{isGoing}
+use Rattle.clause.proofs.steps.goes_on.Statement.{statement}
+use Rattle.clause.proofs.steps.goes_on.Tie as tie
 
 -- there is more to be read
 returns : tie.Need-returns
