@@ -353,7 +353,8 @@ pub fn is_word(b: u8) -> bool
     ensures { λ r. ⌜ r ≡ isWord b ⌝ }
 {
     let lower = (97 <= b) & (b <= 122);
-    if lower {
+    let digit = (48 <= b) & (b <= 57);
+    if lower | digit | (b == 95) {
         return true;
     }
     // what mostly ends a word: blanks, parentheses, the comma

@@ -1,8 +1,8 @@
 -- `ascii::class::is_word` meets its contract: question 7 of a byte is answered by its class, and that of a common byte without it.
 -- Assumes nothing.
 use mathlib.Core.Path.{refl, sym}
-use mathlib.Core.Bool.{true, false}
-use lib.Dec.{ltb}
+use mathlib.Core.Bool.{true, false, _||_}
+use lib.Dec.{ltb, eqb}
 use borrow.Author.Needs.{needs}
 use borrow.Author.Tests.{lt-ltb}
 use Rattle.ascii.specs.Ascii.{isWord, within}
@@ -12,7 +12,7 @@ use Rattle.ascii.proofs.class.is_word.Statement.{statement}
 use Rattle.ascii.proofs.class.is_word.Tie as tie
 
 small : tie.Need-returns
-small c = sym (agree-where (within 97 122) isWord (λ _. true) 256 refl (c .before .args .b) (search needs) (c .if1 .taken))
+small c = sym (agree-where (λ b. within 97 122 b || within 48 57 b || eqb b 95) isWord (λ _. true) 256 refl (c .before .args .b) (search needs) (c .if1 .taken))
 
 below : tie.Need-returns-2
 below c = sym (agree-where (λ b. ltb b 48) isWord (λ _. false) 256 refl (c .before .before .args .b) (search needs) (lt-ltb _ _ (c .if2 .taken)))
