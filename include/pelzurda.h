@@ -113,6 +113,12 @@ uint64_t pelzurda_lines(uint32_t language, uint32_t prefix, const uint8_t *book,
                         const size_t *ends, size_t ends_len, uint8_t *text, size_t text_len, uint16_t *map, size_t map_len, size_t slots,
                         uint64_t (*answers)[5], size_t answers_len);
 
+/* The answers of many texts of clauses under one check of the book: how many texts were answered, as many as there are ends and slots. Text k ends
+ * before byte ends[k] of `texts` and starts where text k - 1 has ended, as lines do above. answers[k] is what pelzurda_sequence gives for text k with so
+ * many `slots` for records: the number of clauses or a refusal, and the place of the unread rest. Slots behind the last answer hold zeros. */
+uint64_t pelzurda_sequences(const uint8_t *book, size_t book_len, const uint8_t *texts, size_t texts_len, const size_t *ends, size_t ends_len,
+                            size_t slots, uint64_t (*answers)[2], size_t answers_len);
+
 #ifdef __cplusplus
 }
 #endif

@@ -57,6 +57,17 @@ unsafe extern "C" {
         answers: *mut [u64; 5],
         answers_len: usize,
     ) -> u64;
+    fn pelzurda_sequences(
+        book: *const u8,
+        book_len: usize,
+        texts: *const u8,
+        texts_len: usize,
+        ends: *const usize,
+        ends_len: usize,
+        slots: usize,
+        answers: *mut [u64; 2],
+        answers_len: usize,
+    ) -> u64;
 }
 
 /// `struct pelzurda_record` of the header.
@@ -163,6 +174,22 @@ pub fn lines(book: &[u8], lines: &[u8], ends: &[usize], text: &mut [u8], map: &m
             text.len(),
             map.as_mut_ptr(),
             map.len(),
+            slots,
+            answers.as_mut_ptr(),
+            answers.len(),
+        )
+    }
+}
+
+pub fn sequences(book: &[u8], texts: &[u8], ends: &[usize], slots: usize, answers: &mut [[u64; 2]]) -> u64 {
+    unsafe {
+        pelzurda_sequences(
+            book.as_ptr(),
+            book.len(),
+            texts.as_ptr(),
+            texts.len(),
+            ends.as_ptr(),
+            ends.len(),
             slots,
             answers.as_mut_ptr(),
             answers.len(),

@@ -73,28 +73,40 @@ fn spread<'a>(entries: &[&'a [u8]], lead: usize, size: usize) -> Vec<&'a [u8]> {
     entries.iter().zip(kept).filter(|(_, kept)| *kept).map(|(entry, _)| *entry).collect()
 }
 
+/// Sequences in a call that reads many, of few clauses or of many.
+const MANY: usize = 100;
+const MANY_LONG: usize = 2;
+
 pub fn rows(report: &Report, folder: &str) {
-    report.heading("clause sequence against parse_sequence, registry built once", "Rust ns");
-    for (title, book) in [("small book", small_book()), ("typical book", typical_book(folder)), ("openmp.drb", openmp_book(folder))] {
+    let books = [("small book", small_book()), ("typical book", typical_book(folder)), ("openmp.drb", openmp_book(folder))];
+    report.heading("clause sequence against parse_sequence, book checked in the call, registry built in the call", "Rust ns");
+    for (title, book) in &books {
+        for count in [1, 10, 500] {
+            row_from_names(report, &format!("sequence {count}, registry built, {title}"), book, &clauses(&TYPICAL, 0, count, " "), count);
+        }
+        row_from_names(report, &format!("sequence 4000, registry built, {title}"), book, &clauses(&SHORT, 0, 4_000, ""), 4_000);
+    }
+    report.heading("the same by the sequence, many a call under one check of the book, registry built once", "Rust ns");
+    for (title, book) in &books {
+        for (count, many) in [(1, MANY), (10, MANY), (500, MANY_LONG)] {
+            many_row(report, &format!("sequences {count}, {title}"), book, |turn| clauses(&TYPICAL, turn, count, " "), count, many);
+        }
+        many_row(report, &format!("sequences 4000, {title}"), book, |_| clauses(&SHORT, 0, 4_000, ""), 4_000, MANY_LONG);
+    }
+    report.heading("one clause sequence a call, book checked in it, against parse_sequence of a registry built before", "Rust ns");
+    for (title, book) in &books {
         for count in [1, 10, 500, 1_000] {
-            row(report, &format!("sequence {count} clauses, {title}"), &book, &clauses(&TYPICAL, count, " "), count);
+            row(report, &format!("sequence {count} clauses, {title}"), book, &clauses(&TYPICAL, 0, count, " "), count);
         }
         for count in [500, 2_000, 4_000] {
-            row(report, &format!("sequence {count} short clauses, {title}"), &book, &clauses(&SHORT, count, ""), count);
+            row(report, &format!("sequence {count} short clauses, {title}"), book, &clauses(&SHORT, 0, count, ""), count);
         }
-    }
-    report.heading("clause sequence against parse_sequence, registry built from the book's names in the call", "Rust ns");
-    for (title, book) in [("small book", small_book()), ("typical book", typical_book(folder)), ("openmp.drb", openmp_book(folder))] {
-        for count in [1, 10, 500] {
-            row_from_names(report, &format!("sequence {count}, registry built, {title}"), &book, &clauses(&TYPICAL, count, " "), count);
-        }
-        row_from_names(report, &format!("sequence 4000, registry built, {title}"), &book, &clauses(&SHORT, 4_000, ""), 4_000);
     }
 }
 
-/// So many clauses, each kind in its turn.
-fn clauses(kinds: &[&str], count: usize, between: &str) -> String {
-    let list: Vec<&str> = kinds.iter().copied().cycle().take(count).collect();
+/// So many clauses, each kind in its turn, the first by a turn.
+fn clauses(kinds: &[&str], turn: usize, count: usize, between: &str) -> String {
+    let list: Vec<&str> = kinds.iter().copied().cycle().skip(turn % kinds.len()).take(count).collect();
     list.join(between)
 }
 
@@ -165,6 +177,31 @@ fn row_from_names(report: &Report, name: &str, book: &[u8], text: &str, count: u
         text.len(),
         || ours::sequence(black_box(book), black_box(text.as_bytes()), &mut lent.records, &mut lent.rest) as usize,
         || parsed(&registry_of(book[6], black_box(names), &rules), black_box(text)),
+    );
+}
+
+fn many_row(report: &Report, name: &str, book: &[u8], text: impl Fn(usize) -> String, count: usize, many: usize) {
+    if !report.wants(name) {
+        return;
+    }
+    let mut shelf = Shelf::default();
+    let texts: Vec<String> = (0..many).map(text).collect();
+    for text in &texts {
+        agreed(name, &mut shelf, book, text, count);
+    }
+    let whole = texts.concat();
+    let ends: Vec<usize> = texts.iter().scan(0, |end, text| { *end += text.len(); Some(*end) }).collect();
+    let mut answers = vec![[u64::MAX; 2]; many];
+    assert_eq!(ours::sequences(book, whole.as_bytes(), &ends, count, &mut answers) as usize, many, "{name}");
+    let expected = texts.iter().map(|text| [count as u64, text.len() as u64]);
+    assert!(answers.iter().copied().eq(expected), "{name}");
+    let registry = &shelf.book(book).expect("a valid book").clause_registry;
+    report.row_of(
+        name,
+        whole.len() / many,
+        many,
+        || ours::sequences(book, black_box(whole.as_bytes()), &ends, count, &mut answers) as usize,
+        || texts.iter().map(|text| parsed(registry, black_box(text))).sum(),
     );
 }
 

@@ -353,13 +353,15 @@ pub fn is_word(b: u8) -> bool
     ensures { λ r. ⌜ r ≡ isWord b ⌝ }
 {
     let lower = (97 <= b) & (b <= 122);
-    let digit = (48 <= b) & (b <= 57);
-    if lower | digit | (b == 95) {
+    if lower {
         return true;
     }
     // what mostly ends a word: blanks, parentheses, the comma
     if b < 48 {
         return false;
+    }
+    if (b <= 57) | (b == 95) {
+        return true;
     }
     5 <= class_of(b)
 }

@@ -1,7 +1,7 @@
 -- Laws of a book's form: what a count of entries or of bytes waits for, and the first bad byte at a place, in the terms of a loop.
 -- Assumes nothing.
-use mathlib.Core.Path.{_≡_, refl, ap, _∙_}
-use mathlib.Core.Bool.{Bool, true, false, not, _||_, _&&_}
+use mathlib.Core.Path.{_≡_, refl, _∙_}
+use mathlib.Core.Bool.{Bool, true, _||_, _&&_}
 use mathlib.Core.Option.{some}
 use mathlib.Core.List.{List}
 use Prim.Native.Nat.{ℕ, zero, suc, _+_, _-_, _<_, _≤_}
@@ -10,12 +10,11 @@ use native.Mathlib.Omega.{arith}
 use lib.ListN.{length, drop, getD, drop-of-length-le}
 use lib.Seq.{drop-cons}
 use lib.Dec.{eqb}
-use borrow.Author.Tests.{eqb-true}
 use Rattle.ascii.specs.Ascii.{isWord}
 use Rattle.rulebook.specs.declared.Expect.{Expect}
 use Rattle.rulebook.specs.declared.Expect.the-variants.{DirectiveLength, DirectiveName, Rule, ClauseName}
 use Rattle.rulebook.specs.declared.Step.the-variants.{Next, Bad}
-use Rattle.rulebook.specs.Format.{clausesLeft, directivesLeft, whenGood, isPart, nameStep, wordStep, stepped, endedAt, badFrom}
+use Rattle.rulebook.specs.Format.{clausesLeft, directivesLeft, whenGood, nameStep, wordStep, stepped, endedAt, badFrom}
 
 -- a count that is not 0
 pub clauses-more : (c : ℕ) → (c ≡ 0 → ⊥) → clausesLeft c ≡ Rule (c - 1)
@@ -27,7 +26,7 @@ directives-more zero c h = absurd (h refl)
 directives-more (suc d) c h = simp unary-clauses
 
 pub name-more : (n : ℕ) (w : Bool) (d c b : ℕ) → (n ≡ 0 → ⊥)
-    → nameStep n w d c b ≡ whenGood (isPart w b) (DirectiveName (n - 1) (isWord b) d c)
+    → nameStep n w d c b ≡ whenGood (isWord b || eqb b 32 && w) (DirectiveName (n - 1) (isWord b) d c)
 name-more zero w d c b h = absurd (h refl)
 name-more (suc n) w d c b h = simp unary-clauses
 
@@ -50,23 +49,11 @@ module _ (bs : List ℕ) (e : Expect) (at : ℕ) where
   unfolding badFrom
   bad-end h = rw (drop-of-length-le bs h)
 
--- of the bytes that may stand in a name the blank alone is of no word
-part-word : (w : Bool) (b : ℕ) → isPart w b ≡ true → isWord b ≡ not (eqb b 32)
-part-word w b t = go (eqb b 32) refl t
-  where
-    go : (e : Bool) → eqb b 32 ≡ e → (isWord b || e && w) ≡ true → isWord b ≡ not e
-    go true q t = ap isWord (eqb-true b 32 q)
-    go false q t = word (isWord b) t
-      where
-        word : (x : Bool) → (x || false) ≡ true → x ≡ true
-        word true t = refl
-        word false t = t
-
 -- a byte that may stand in a name before its last one
 module _ (bs : List ℕ) (at left : ℕ) (h : at < length bs) (g : 0 < left) where
-  pub name-on : (word w : Bool) (d c : ℕ) → word ≡ not (eqb (getD bs at 0) 32) → isPart w (getD bs at 0) ≡ true
+  pub name-on : (word w : Bool) (d c : ℕ) → word ≡ isWord (getD bs at 0) → (word || eqb (getD bs at 0) 32 && w) ≡ true
       → badFrom (DirectiveName left w d c) at (drop at bs) ≡ badFrom (DirectiveName (left - 1) word d c) (at + 1) (drop (at + 1) bs)
-  name-on word w d c q t = bad-later bs _ at _ h (name-more left w d c (getD bs at 0) (omega arith) ∙ rw (q, t, part-word w (getD bs at 0) t))
+  name-on word w d c q t = bad-later bs _ at _ h (name-more left w d c (getD bs at 0) (omega arith) ∙ rw (q, rw q at t))
 
   pub word-on : (c : ℕ) → isWord (getD bs at 0) ≡ true
       → badFrom (ClauseName left c) at (drop at bs) ≡ badFrom (ClauseName (left - 1) c) (at + 1) (drop (at + 1) bs)

@@ -53,12 +53,9 @@ abbrev pub headerStep : ℕ → ℕ → Step
 headerStep i b = whenGood (isHeader i b) (cond (ltb i 7) (HeaderByte (i + 1)) (ClauseCount b))
 
 -- "Names are words of letters, digits, `_`; directive words have one blank between them": a blank stands after a byte of a word, and not last
-abbrev pub isPart : Bool → ℕ → Bool
-isPart w b = isWord b || eqb b 32 && w
-
 abbrev pub nameStep : ℕ → Bool → ℕ → ℕ → ℕ → Step
 nameStep zero w d c b = whenGood (isWord b) (directivesLeft d c)
-nameStep (suc n) w d c b = whenGood (isPart w b) (DirectiveName n (isWord b) d c)
+nameStep (suc n) w d c b = whenGood (isWord b || eqb b 32 && w) (DirectiveName n (isWord b) d c)
 
 -- "a clause name is one word"
 abbrev pub wordStep : ℕ → ℕ → ℕ → Step

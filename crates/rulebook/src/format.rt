@@ -10,7 +10,7 @@ ghost use mathlib.Core.Path.{_≡_};
 ghost use Prim.Native.Nat.{_-_, _≤_};
 ghost use lib.ListN.{length, drop};
 ghost use Rattle.ascii.specs.Text.{foundAt};
-ghost use Rattle.rulebook.specs.Format.{ruleFor, isKnown, isHeader, isLength, clausesLeft, directivesLeft, whenGood, headerStep, isPart, nameStep, wordStep, stepped, endedAt, badFrom};
+ghost use Rattle.rulebook.specs.Format.{ruleFor, isKnown, isHeader, isLength, clausesLeft, directivesLeft, whenGood, headerStep, nameStep, wordStep, stepped, endedAt, badFrom};
 
 pub fn wide(b: u8) -> usize
     ensures { λ r. ⌜ r ≡ b ⌝ }
@@ -168,17 +168,6 @@ fn ended(e: Expect, at: usize) -> Found
 // Names are most of a book, so their bytes are read in loops of their own, each up to the name's last byte or one that may not stand there.
 // Of a book that is cut in the name nothing is read here.
 
-// Whether a byte may stand in a directive's name before its last. Letters and the blank between words share a test: which of them comes is hard to foresee.
-fn is_part(b: u8, after_word: bool) -> bool
-    ensures { λ r. ⌜ r ≡ isPart «after_word» b ⌝ }
-{
-    let lower = (97 <= b) & (b <= 122);
-    if lower | (b == 32) & after_word {
-        return true;
-    }
-    is_word(b)
-}
-
 fn directive_run(book: &[u8], at: usize, n: usize, after_word: bool, d: usize, c: usize) -> Waiting
     requires { ⌜ at ≤ length (now book) ⌝ }
     ensures { λ r. ⌜ (at ≤ r .at) × (r .at ≤ length (now (book .entry))) ⌝ }
@@ -195,14 +184,15 @@ fn directive_run(book: &[u8], at: usize, n: usize, after_word: bool, d: usize, c
     }
     while 0 < left {
         let b = book[place];
-        if !is_part(b, word) {
+        let is = is_word(b);
+        if !(is | (b == 32) & word) {
             return Waiting {
                 at: place,
                 expect: Expect::DirectiveName(left, word, d, c),
             };
         }
         left -= 1;
-        word = b != 32;
+        word = is;
         place += 1;
     }
     Waiting {

@@ -1,9 +1,11 @@
 -- `rulebook::format::directive_run` meets its contract: what is left of the book from the place on has the fault of what was left at first.
 -- Assumes nothing.
 use mathlib.Core.Path.{_≡_, refl, sym, _∙_}
+use mathlib.Core.Bool.{_||_, _&&_}
 use Prim.Native.Nat.{_+_, _≤_}
 use native.Mathlib.Omega.{arith}
-use lib.ListN.{length, drop}
+use lib.ListN.{length, drop, getD}
+use lib.Dec.{eqb}
 use borrow.Author.Needs.{needs}
 use borrow.Author.Tests.{not-false}
 use Rattle.rulebook.specs.declared.Expect.the-variants.{DirectiveName}
@@ -38,6 +40,7 @@ directive-run-spec =
     (λ c. omega arith)
     (λ c. let l = c .before .before .before .before .loop in
     let a = c .before .before .before .before .before .before .before .args in
-    let t = sym (c .before .is-part .ensures) ∙ not-false (c .before .is-part .result) (c .if2 .left) in
-    (omega arith, omega arith, sym (name-on (a .book .now) (l .place) (l .left) (omega arith) (omega arith) _ (l .word) _ _ refl t) ∙ l .inv .2))
+    let w = c .before .is-word .result in
+    let t = not-false (w || eqb (getD (a .book .now) (l .place) 0) 32 && l .word) (c .if2 .left) in
+    (omega arith, omega arith, sym (name-on (a .book .now) (l .place) (l .left) (omega arith) (omega arith) w (l .word) _ _ (c .before .is-word .ensures) t) ∙ l .inv .2))
     (λ c. let l = c .before .loop in ((l .inv .0, omega arith), l .inv .2)))
