@@ -5,6 +5,7 @@ pub mod Walking
 pub mod Filling
 pub mod Stopping
 pub mod Lending
+pub mod Indices
 pub mod Properness
 pub mod Sequencing
 pub mod Starting

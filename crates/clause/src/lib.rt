@@ -97,8 +97,9 @@ pub fn parse_sequence(book: &[u8], text: &[u8], records: &mut [ClauseRecord]) ->
     ensures { λ r. ⌜ record { answer = sequenceGives r; records = now (records .exit) }
         ≡ sequenceCall (now (book .entry)) (now (text .entry)) (length (now (records .entry))) ⌝ }
 {
-    let start = steps::start(book, text, records.len());
-    records::read_from(book, text, start, records)
+    let mut index = [0u32; 1024];
+    let start = steps::start(book, text, records.len(), &mut index);
+    records::read_from(book, &index, text, start, records)
 }
 
 // The same over an array by value, of which so many slots are used: for callers that hold their records in a local.
@@ -111,7 +112,8 @@ pub fn parse_sequence_512(
     ensures { λ r. ⌜ record { answer = sequenceGives (r .answer); records = r .records }
         ≡ sequenceInto (now (book .entry)) (now (text .entry)) (min slots 512) 512 ⌝ }
 {
-    let start = steps::start_512(book, text, slots);
-    let answer = records::read_from(book, text, start, &mut records);
+    let mut index = [0u32; 1024];
+    let start = steps::start_512(book, text, slots, &mut index);
+    let answer = records::read_from(book, &index, text, start, &mut records);
     steps::paired(answer, records)
 }

@@ -2,15 +2,13 @@
 use crate::SequenceAnswer;
 use crate::SequenceState;
 use crate::steps;
-use refusal::Verdict;
-use rulebook::BookAnswer;
 use rulebook::CheckedBook;
 ghost use mathlib.Core.Path.{_≡_};
 ghost use Rattle.refusal.specs.Answer.{given, andThen};
 ghost use Rattle.rulebook.specs.Check.{Stands};
 ghost use Rattle.rulebook.specs.Index.{Indexes};
 ghost use Rattle.clause.specs.Calls.{counted, sequenceCall, sequenceGives};
-ghost use Rattle.clause.specs.Steps.{Started, readOn, startOf};
+ghost use Rattle.clause.specs.Steps.{Started, readOn};
 
 // The answer of the clauses from a state on, with so many slots. Each clause's record is made, and not kept.
 pub fn count_clauses(
@@ -33,25 +31,10 @@ pub fn count_clauses(
         if more {
             i += 1;
         } else {
-            return steps::finish(book, text, s);
+            return steps::finish(book, index, text, s);
         }
     }
-    steps::finish(book, text, s)
-}
-
-// The start of a text under the book that was checked: refusals 1, 2 and 4 before it.
-fn start_under(book: &[u8], checked: CheckedBook, text: &[u8], slots: usize) -> SequenceState
-    requires { ⌜ Stands (now book) checked ⌝ }
-    ensures { λ r. ⌜ r ≡ startOf (now (book .entry)) (now (text .entry)) slots ⌝ }
-{
-    let verdict = checked.verdict;
-    match refusal::check_text(text) {
-        Verdict::Bad(refusal) => steps::refused_start(slots, refusal),
-        Verdict::Fine => match verdict {
-            BookAnswer::Refused(refusal) => steps::refused_start(slots, refusal),
-            BookAnswer::Valid => steps::start_at(checked.header, text, 0, slots),
-        },
-    }
+    steps::finish(book, index, text, s)
 }
 
 // The answer of a text with so many record slots.
@@ -66,6 +49,6 @@ pub fn sequence_answer(
     requires { ⌜ Indexes (now book) (now index) ⌝ }
     ensures { λ r. ⌜ sequenceGives r ≡ sequenceCall (now (book .entry)) (now (text .entry)) slots .answer ⌝ }
 {
-    let start = start_under(book, checked, text, slots);
+    let start = steps::start_under(book, checked, text, slots);
     count_clauses(book, index, text, start, slots)
 }

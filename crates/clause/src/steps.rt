@@ -14,6 +14,7 @@ use refusal::Reason;
 use refusal::Refusal;
 use refusal::Verdict;
 use rulebook::BookAnswer;
+use rulebook::CheckedBook;
 use rulebook::ClauseRule;
 use rulebook::Header;
 ghost use mathlib.Core.Path.{_≡_};
@@ -25,8 +26,8 @@ ghost use lib.Dec.{eqb};
 ghost use Rattle.refusal.specs.Answer.{maxLength};
 ghost use Rattle.lexer.specs.Trivia.{skip};
 ghost use Rattle.rulebook.specs.Book.{bookOf};
-ghost use Rattle.rulebook.specs.Check.{bookFault};
-ghost use Rattle.rulebook.specs.Index.{Indexes};
+ghost use Rattle.rulebook.specs.Check.{Stands};
+ghost use Rattle.rulebook.specs.Index.{Fresh, Indexes};
 ghost use Rattle.clause.specs.Sequence.{separated, isUnsupported};
 ghost use Rattle.clause.specs.Steps.{flagBook, Proper, Ready, begun as begunOf, refusedStart, begunAt, startOf, still as stillOf, stopped as stoppedOf, gone as goneOf, behind as behindOf, cleanBehind, onward as onwardOf, nextState, isGoing, answerOf, keptOf};
 
@@ -78,17 +79,28 @@ pub fn start_at(header: Header, text: &[u8], at: usize, slots: usize) -> Sequenc
     }
 }
 
-// The start of a text: refusals 1, 2 and 4 before it.
-pub fn start(book: &[u8], text: &[u8], slots: usize) -> SequenceState
+// The start of a text under the book that was checked: refusals 1, 2 and 4 before it.
+pub fn start_under(book: &[u8], checked: CheckedBook, text: &[u8], slots: usize) -> SequenceState
+    requires { ⌜ Stands (now book) checked ⌝ }
     ensures { λ r. ⌜ r ≡ startOf (now (book .entry)) (now (text .entry)) slots ⌝ }
 {
+    let verdict = checked.verdict;
     match refusal::check_text(text) {
         Verdict::Bad(refusal) => refused_start(slots, refusal),
-        Verdict::Fine => match rulebook::check_book(book) {
+        Verdict::Fine => match verdict {
             BookAnswer::Refused(refusal) => refused_start(slots, refusal),
-            BookAnswer::Valid => start_at(rulebook::lookup::read_header(book), text, 0, slots),
+            BookAnswer::Valid => start_at(checked.header, text, 0, slots),
         },
     }
+}
+
+// The same with the book checked here, and its index.
+pub fn start(book: &[u8], text: &[u8], slots: usize, index: &mut [u32]) -> SequenceState
+    requires { ⌜ Fresh (now index) ⌝ }
+    ensures { λ r. ⌜ (r ≡ startOf (now (book .entry)) (now (text .entry)) slots) × Indexes (now (book .entry)) (now (index .exit)) ⌝ }
+{
+    let checked = rulebook::checked(book, index);
+    start_under(book, checked, text, slots)
 }
 
 // The state at the same place, with no record for the slot of this step.
@@ -200,8 +212,7 @@ fn onward(book: &[u8], index: &[u32], text: &[u8], s: SequenceState) -> Sequence
 
 // The state after one clause more, whose name is looked up by an index; its record is for the next slot.
 pub fn next_by(book: &[u8], index: &[u32], text: &[u8], s: SequenceState) -> SequenceState
-    requires { ⌜ Proper (now book) (now text) s ⌝ }
-    requires { ⌜ Indexes (now book) (now index) ⌝ }
+    requires { ⌜ Proper (now book) (now text) s × Indexes (now book) (now index) ⌝ }
     ensures { λ r. ⌜ r ≡ nextState (now (book .entry)) (now (text .entry)) s ⌝ }
 {
     let progress = s.progress;
@@ -210,15 +221,6 @@ pub fn next_by(book: &[u8], index: &[u32], text: &[u8], s: SequenceState) -> Seq
         Progress::Ended => still(s, Progress::Ended),
         Progress::Refused(refusal) => still(s, Progress::Refused(refusal)),
     }
-}
-
-// The same with no index.
-pub fn next_clause(book: &[u8], text: &[u8], s: SequenceState) -> SequenceState
-    requires { ⌜ Proper (now book) (now text) s ⌝ }
-    ensures { λ r. ⌜ r ≡ nextState (now (book .entry)) (now (text .entry)) s ⌝ }
-{
-    let none = [0u32; 1];
-    next_by(book, &none[..0], text, s)
 }
 
 // Whether more is to be read.
@@ -241,11 +243,11 @@ pub fn stop_before(s: SequenceState, next: usize, stop: usize) -> usize
 }
 
 // The answer, once a step more than there are slots has told whether a clause is left.
-pub fn finish(book: &[u8], text: &[u8], s: SequenceState) -> SequenceAnswer
-    requires { ⌜ Proper (now book) (now text) s ⌝ }
+pub fn finish(book: &[u8], index: &[u32], text: &[u8], s: SequenceState) -> SequenceAnswer
+    requires { ⌜ Proper (now book) (now text) s × Indexes (now book) (now index) ⌝ }
     ensures { λ r. ⌜ r ≡ answerOf (nextState (now (book .entry)) (now (text .entry)) s) ⌝ }
 {
-    let last = next_clause(book, text, s);
+    let last = next_by(book, index, text, s);
     let progress = last.progress;
     match progress {
         Progress::Going => SequenceAnswer::Read(SequenceEnd {
@@ -271,13 +273,14 @@ pub fn kept(answer: SequenceAnswer, size: usize) -> usize
 }
 
 // The start for an array of 512 slots, of which no more are used than it has.
-pub fn start_512(book: &[u8], text: &[u8], slots: usize) -> SequenceState
-    ensures { λ r. ⌜ r ≡ startOf (now (book .entry)) (now (text .entry)) (min slots 512) ⌝ }
+pub fn start_512(book: &[u8], text: &[u8], slots: usize, index: &mut [u32]) -> SequenceState
+    requires { ⌜ Fresh (now index) ⌝ }
+    ensures { λ r. ⌜ (r ≡ startOf (now (book .entry)) (now (text .entry)) (min slots 512)) × Indexes (now (book .entry)) (now (index .exit)) ⌝ }
 {
     if slots < 512 {
-        return start(book, text, slots);
+        return start(book, text, slots, index);
     }
-    start(book, text, 512)
+    start(book, text, 512, index)
 }
 
 // An answer with its slots.

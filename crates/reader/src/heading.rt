@@ -25,7 +25,7 @@ ghost use lib.ListN.{length, take, replicate};
 ghost use Rattle.refusal.specs.Answer.{andThen, maxLength};
 ghost use Rattle.rulebook.specs.Book.{bookOf, headerOf};
 ghost use Rattle.rulebook.specs.Check.{bookFault, HasForm, Stands};
-ghost use Rattle.rulebook.specs.Index.{Looked, Indexes};
+ghost use Rattle.rulebook.specs.Index.{Fresh, Looked, Indexes};
 ghost use Rattle.clause.specs.Steps.{keptOf};
 ghost use Rattle.directive.specs.Name.{nameAt, nameGives};
 ghost use Rattle.reader.specs.Line.{opening as openingOf, parsed};
@@ -124,21 +124,33 @@ pub fn head_under(
     head_of(language, prefix, book, header, index, &text[..n], slots)
 }
 
-// The same with the book checked here.
+// The same with the book checked here, and its index.
 pub fn read_head(
     language: Language,
     prefix: Prefix,
     book: &[u8],
+    index: &mut [u32],
     line: &[u8],
     text: &mut [u8],
     map: &mut [u16],
     slots: usize,
 ) -> Head
-    ensures { λ r. ⌜ HeadGives language prefix (now (book .entry)) (now (line .entry)) slots (now (text .exit)) (now (map .exit)) r ⌝ }
+    requires { ⌜ Fresh (now index) ⌝ }
+    ensures { λ r. ⌜ HeadGives language prefix (now (book .entry)) (now (line .entry)) slots (now (text .exit)) (now (map .exit)) r
+        × Indexes (now (book .entry)) (now (index .exit)) ⌝ }
 {
-    let mut index = [0u32; 1024];
-    let checked = rulebook::checked(book, &mut index);
-    head_under(language, prefix, book, checked, &index, line, text, map, slots)
+    let checked = rulebook::checked(book, index);
+    head_under(
+        language,
+        prefix,
+        book,
+        checked,
+        index,
+        line,
+        text,
+        map,
+        slots,
+    )
 }
 
 // The joined text that stands.

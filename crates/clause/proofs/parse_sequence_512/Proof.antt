@@ -1,5 +1,5 @@
 -- `parse_sequence_512` meets its contract: a walk of its code by hand. The array in a local is lent as a slice for a lifetime of the call, and is
--- read whole once it is back; the answer is put beside it by `paired`.
+-- read whole once it is back; the answer is put beside it by `paired`. The index in a local is lent twice, as `&mut` and as `&`.
 use mathlib.Core.Path.{_≡_, refl, sym, _∙_, ap, subst}
 use Prim.Native.Nat.{ℕ, _<_, _^_, min}
 use native.Mathlib.Omega.{arith}
@@ -18,9 +18,9 @@ use prog.Wp.{Heap, Calls, Loops, WpFn, Tables}
 use ghost.Atoms.{Atoms, sem}
 use contract.Monad.{Fun, fact}
 use contract.Running.{givenOf, tables, tablesOf}
-use types.Kit.{Given, ‵, raw, some, later, _⊛_, ⋆, _$_, _∵_, !, qed, by, move, keep, drop, group, use1, use2, use3, split, join, pick, rewrite, fsplit, fjoin, fpick, fpack, feqL, feqI, suffices, frame, await, done}
+use types.Kit.{Given, ‵, raw, some, later, _⊛_, ⋆, _$_, _∵_, !, qed, by, move, keep, drop, group, use0, use1, use2, use3, split, join, pick, rewrite, fsplit, fjoin, fpick, fpack, feqL, feqI, suffices, frame, await, done}
 use types.Run.{look, init, forget, stop, from, load, lit, addr, of-opd, and-then, no-more, assigns, land, returns, enter, alloc1, alloc0, params1, pass1, pass0, free1, free0}
-use types.Part.{agg}
+use types.Part.{agg, rep}
 use types.SemTy.{cells, Arr}
 use types.Share.{arr-parts}
 use types.Tokens.{lft-new, lft-end}
@@ -31,7 +31,7 @@ use denote.Array.{Array, array-vals, array-tells, array-lawful}
 use denote.ArrayMemory.{array-apart, array-whole}
 use denote.Laws.{Is, shows}
 use denote.Plain.{uint-vals, uint-tells, uint-makes}
-use denote.Builtin.{u8, usize}
+use denote.Builtin.{u8, u32, usize}
 use denote.Ref.{RefT}
 use denote.Slice.{sliceVal, MutSlice, ShrSlice, Room, slice-vals, shr-slice-tells, shr-slice-copy}
 use denote.Lend.{Held, lends-slice, slice-back}
@@ -49,12 +49,14 @@ use denote.Triple.Walked.{says, Stays, stay-dropped, walkOf, goes-dropped, Walks
 use denote.Exit.{yes}
 use denote.Signature.{plain, shrSliceOf}
 use denote.Signature.Array.{arrayOf}
+use Rattle.rulebook.specs.Index.{Indexes}
 use Rattle.clause.specs.Calls.{SequenceCall, sequenceGives}
 use Rattle.clause.specs.Steps.{Started, startOf, readOn, settled, sequenceInto}
 use Rattle.clause.specs.declared.ClauseRecord.{ClauseRecord}
 use Rattle.clause.specs.declared.SequenceState.{SequenceState}
 use Rattle.clause.specs.declared.SequenceAnswer.{SequenceAnswer}
 use Rattle.clause.specs.declared.Sequence512.{Sequence512}
+use Rattle.clause.proofs.Indices.{Index, index-ty, mach as index-mach, zeros, blank, zeros-fresh, big-lit, index-room, lent-at, index-typed, index-made, index-laid, index-shared, index-back}
 use Rattle.clause.proofs.Starting.{started-more, into-is}
 use Rattle.clause.proofs.ClauseRecord as T
 use Rattle.clause.proofs.ClauseRecord.Laws as T′
@@ -107,10 +109,6 @@ module _ {M : Type 1} (𝓤 : URA M) (H : Heap 𝓤) (A : Atoms 𝓤) (mem″ : 
 
   abbrev Pair : Contract 𝓤
   Pair = tripleOf 𝓤 H A pair.signature (pair.spec 𝓤 H A mem″ run)
-
-  start-said : (κ₁ κ₂ : Lft) (x₁ x₂ : RefT (List ℕ)) (m : ℕ) (r : SequenceState)
-      → ent 𝓤 (ensured 𝓤 H A start.ended (start.clauses 𝓤 H A mem″ run) (κ₁, (κ₂, tt)) (x₁, (x₂, (m, tt))) tt r) (fact 𝓤 (r ≡ startOf (x₁ .now) (x₂ .now) (min m 512)))
-  start-said κ₁ κ₂ x₁ x₂ m r = exE 𝓤 _ (λ ws. snd∗ 𝓤 (sem 𝓤 H A (lasts start.ended (κ₁, (κ₂, tt)) (x₁, (x₂, (m, tt))) ws)) (fact 𝓤 (r ≡ startOf (x₁ .now) (x₂ .now) (min m 512))))
 
   -- what `paired` says of its result
   abbrev Paired : SequenceAnswer → List ClauseRecord → Sequence512 → Type 0
@@ -186,26 +184,33 @@ module _ {M : Type 1} (𝓤 : URA M) (H : Heap 𝓤) (A : Atoms 𝓤) (W : Given
   abbrev s₃ : ℕ → Val
   s₃ l = sliceVal (l, 0) 512
 
+  -- and of the index
+  abbrev s₄ : ℕ → Val
+  s₄ l = sliceVal (l, 0) 1024
+
   room : Room T.the-row (length xs)
   room = subst (Room T.the-row) (sym len) (lit< tt, lit< tt)
 
-  abbrev to-start : Begin 𝓤 H A mem″ run .Ghost
-  to-start = (((κ₁, (κ₂, tt)), (q₁, (q₂, tt)), tt, (x₁, (x₂, (m, tt))), (s₁ ∷ [], (s₂ ∷ [], (vint w64 m ∷ [], tt)))), tt)
+  abbrev to-start : ℕ → ℕ → GName → Begin 𝓤 H A mem″ run .Ghost
+  to-start l ν δ = (((κ₁, (κ₂, (ν ∷ [], tt))), (q₁, (q₂, (fullShare, tt))), tt, (x₁, (x₂, (m, (lent-at l δ zeros, tt)))), (s₁ ∷ [], (s₂ ∷ [], (vint w64 m ∷ [], (s₄ l ∷ [], tt))))), tt)
 
-  goes-start : ent 𝓤 (⋆ 𝓤 H A (‵ (flft κ₁ q₁) ∷ ‵ (flft κ₂ q₂) ∷ ‵ Own₁ ∷ ‵ Own₂ ∷ [])) (Begin 𝓤 H A mem″ run .pre to-start)
-  goes-start =
-      qed W (‵ (flft κ₁ q₁) ∷ ‵ (flft κ₂ q₂) ∷ ‵ Own₁ ∷ ‵ Own₂ ∷ []) ∵ nothing ! $ owned ! usize (Is usize) (uint-makes 𝓤 H A W w64) m _ (refl, m-fits) $ fjoin ! $
-      move ! (4 ∷ 0 ∷ []) $ fjoin ! $ move ! (3 ∷ 0 ∷ []) $ fjoin ! $ nothing ! $ move ! (3 ∷ 0 ∷ []) $ join ! $ move ! (2 ∷ 0 ∷ []) $ join ! $ join ! $ frame ! $ done !
-
-  abbrev to-read : ℕ → ℕ → GName → SequenceState → Val → Read 𝓤 H A mem″ run .Ghost
-  to-read l ν δ s w = (((κ₁, (κ₂, (ν ∷ [], tt))), (q₁, (q₂, (fullShare, tt))), tt, (x₁, (x₂, (s, (x l δ, tt)))), (s₁ ∷ [], (s₂ ∷ [], (w ∷ [], (s₃ l ∷ [], tt))))), tt)
-
-  goes-read : (l ν : ℕ) (δ : GName) (s : SequenceState) (w : Val) → Started bk t (length xs) s
-      → ent 𝓤 (⋆ 𝓤 H A (‵ (flft κ₁ q₁) ∷ ‵ (flft κ₂ q₂) ∷ ‵ (flft (ν ∷ []) fullShare) ∷ ‵ Own₁ ∷ ‵ Own₂ ∷ ‵ (OwnS s (w ∷ [])) ∷ ‵ (MutSlice (named 2) (ν ∷ []) T.the-row .own (x l δ) (s₃ l ∷ [])) ∷ [])) (Read 𝓤 H A mem″ run .pre (to-read l ν δ s w))
-  goes-read l ν δ s w started =
-      qed W (‵ (flft κ₁ q₁) ∷ ‵ (flft κ₂ q₂) ∷ ‵ (flft (ν ∷ []) fullShare) ∷ ‵ Own₁ ∷ ‵ Own₂ ∷ ‵ (OwnS s (w ∷ [])) ∷ ‵ (MutSlice (named 2) (ν ∷ []) T.the-row .own (x l δ) (s₃ l ∷ [])) ∷ []) ∵ says ! started $
+  goes-start : (l ν : ℕ) (δ : GName) → ent 𝓤 (⋆ 𝓤 H A (‵ (flft κ₁ q₁) ∷ ‵ (flft κ₂ q₂) ∷ ‵ (flft (ν ∷ []) fullShare) ∷ ‵ Own₁ ∷ ‵ Own₂ ∷ ‵ (MutSlice (named 2) (ν ∷ []) u32 .own (lent-at l δ zeros) (s₄ l ∷ [])) ∷ [])) (Begin 𝓤 H A mem″ run .pre (to-start l ν δ))
+  goes-start l ν δ =
+      qed W (‵ (flft κ₁ q₁) ∷ ‵ (flft κ₂ q₂) ∷ ‵ (flft (ν ∷ []) fullShare) ∷ ‵ Own₁ ∷ ‵ Own₂ ∷ ‵ (MutSlice (named 2) (ν ∷ []) u32 .own (lent-at l δ zeros) (s₄ l ∷ [])) ∷ []) ∵ says ! zeros-fresh $
       nothing ! $ move ! (3 ∷ 0 ∷ []) $ join ! $ move ! (2 ∷ 0 ∷ []) $ join ! $ move ! (1 ∷ 0 ∷ []) $ join ! $ frame ! $
-      nothing ! $ move ! (4 ∷ 0 ∷ []) $ fjoin ! $ move ! (3 ∷ 0 ∷ []) $ fjoin ! $ move ! (2 ∷ 0 ∷ []) $ fjoin ! $ move ! (1 ∷ 0 ∷ []) $ fjoin ! $ done !
+      nothing ! $ move ! (3 ∷ 0 ∷ []) $ fjoin ! $ owned ! usize (Is usize) (uint-makes 𝓤 H A W w64) m _ (refl, m-fits) $ fjoin ! $ move ! (2 ∷ 0 ∷ []) $ fjoin ! $ move ! (1 ∷ 0 ∷ []) $ fjoin ! $ done !
+
+  -- the index from the local i, the slots from the local l
+  abbrev to-read : ℕ → ℕ → GName → List ℕ → ℕ → ℕ → GName → SequenceState → Val → Read 𝓤 H A mem″ run .Ghost
+  to-read i ν₂ δ₂ zs l ν δ s w = (((κ₁, (ν₂ ∷ [], (κ₂, (ν ∷ [], tt)))), (q₁, (fullShare, (q₂, (fullShare, tt)))), tt, (x₁, (lent-at i δ₂ zs, (x₂, (s, (x l δ, tt))))), (s₁ ∷ [], (s₄ i ∷ [], (s₂ ∷ [], (w ∷ [], (s₃ l ∷ [], tt)))))), tt)
+
+  goes-read : (i ν₂ : ℕ) (δ₂ : GName) (zs : List ℕ) (l ν : ℕ) (δ : GName) (s : SequenceState) (w : Val) → Started bk t (length xs) s → Indexes bk zs
+      → ent 𝓤 (⋆ 𝓤 H A (‵ (flft κ₁ q₁) ∷ ‵ (flft (ν₂ ∷ []) fullShare) ∷ ‵ (flft κ₂ q₂) ∷ ‵ (flft (ν ∷ []) fullShare) ∷ ‵ Own₁ ∷ ‵ (ShrSlice (named 1) (ν₂ ∷ []) u32 .own (lent-at i δ₂ zs) (s₄ i ∷ [])) ∷ ‵ Own₂ ∷ ‵ (OwnS s (w ∷ [])) ∷ ‵ (MutSlice (named 3) (ν ∷ []) T.the-row .own (x l δ) (s₃ l ∷ [])) ∷ []))
+      (Read 𝓤 H A mem″ run .pre (to-read i ν₂ δ₂ zs l ν δ s w))
+  goes-read i ν₂ δ₂ zs l ν δ s w started indexed =
+      qed W (‵ (flft κ₁ q₁) ∷ ‵ (flft (ν₂ ∷ []) fullShare) ∷ ‵ (flft κ₂ q₂) ∷ ‵ (flft (ν ∷ []) fullShare) ∷ ‵ Own₁ ∷ ‵ (ShrSlice (named 1) (ν₂ ∷ []) u32 .own (lent-at i δ₂ zs) (s₄ i ∷ [])) ∷ ‵ Own₂ ∷ ‵ (OwnS s (w ∷ [])) ∷ ‵ (MutSlice (named 3) (ν ∷ []) T.the-row .own (x l δ) (s₃ l ∷ [])) ∷ []) ∵ says ! (started, indexed) $
+      nothing ! $ move ! (4 ∷ 0 ∷ []) $ join ! $ move ! (3 ∷ 0 ∷ []) $ join ! $ move ! (2 ∷ 0 ∷ []) $ join ! $ move ! (1 ∷ 0 ∷ []) $ join ! $ frame ! $
+      nothing ! $ move ! (5 ∷ 0 ∷ []) $ fjoin ! $ move ! (4 ∷ 0 ∷ []) $ fjoin ! $ move ! (3 ∷ 0 ∷ []) $ fjoin ! $ move ! (2 ∷ 0 ∷ []) $ fjoin ! $ move ! (1 ∷ 0 ∷ []) $ fjoin ! $ done !
 
   abbrev to-pair : SequenceAnswer → Val → List ClauseRecord → Pair 𝓤 H A mem″ run .Ghost
   to-pair r w zs = ((tt, tt, tt, (r, (zs, tt)), (w ∷ [], (mach zs ∷ [], tt))), tt)
@@ -223,6 +228,10 @@ module _ {M : Type 1} (𝓤 : URA M) (H : Heap 𝓤) (A : Atoms 𝓤) (W : Given
       suffices ! _ (ends-at 𝓤 H A f.ended stayed (f.clauses 𝓤 H A mem″ run) W (((κ₁, (κ₂, tt)), (q₁, (q₂, tt)), tt, a, vals), tt) w p (tt, (tt, (tt, (tt, tt)))) (tt, (tt, (tt, (tt, tt))))) $ says ! e $
       nothing ! $ move ! (2 ∷ 0 ∷ []) $ join ! $ move ! (1 ∷ 0 ∷ []) $ join ! $ frame ! $ nothing ! $ nothing ! $ fjoin ! $ nothing ! $ fjoin ! $ nothing ! $ fjoin ! $ nothing ! $ fjoin ! $ frame ! $ done !
 
+  -- what `start_512` says of its result and of the index
+  abbrev Begun : SequenceState → List ℕ → Type 0
+  Begun s zs = (s ≡ startOf bk t (min m 512)) × Indexes bk zs
+
   -- what `read_from` says of its result and of the slots
   abbrev Said : SequenceState → SequenceAnswer → List ClauseRecord → Type 0
   Said s r us = _≡_ {A = SequenceCall} (record { answer = sequenceGives r; records = us }) (settled (length xs) (readOn bk t s))
@@ -231,57 +240,83 @@ module _ {M : Type 1} (𝓤 : URA M) (H : Heap 𝓤) (A : Atoms 𝓤) (W : Given
     walk : ent 𝓤 (onEntry 𝓤 H A f.signature (κ₁, (κ₂, tt)) (q₁, (q₂, tt)) a vals) (WpFn 𝓤 H C Λ code.function (s₁ ∷ s₂ ∷ vint w64 m ∷ v ∷ []) Post)
     walk =
         qed W ((‵ (flft κ₁ q₁) ⊛ (‵ (flft κ₂ q₂) ⊛ ‵ ftrue)) ∷ ‵ (owns (ShrSlice (named 0) κ₁ u8 ∷ ShrSlice (named 1) κ₂ u8 ∷ usize ∷ Slots ∷ []) a vals) ∷ []) ∵ enter ! C Λ code.function (s₁ ∷ s₂ ∷ vint w64 m ∷ v ∷ []) _ $
-        alloc1 ! (λ l₀. alloc1 ! (λ l₁. alloc1 ! (λ l₂. alloc1 ! (λ l₃. alloc1 ! (λ l₄. alloc1 ! (λ l₅. alloc1 ! (λ l₆. alloc1 ! (λ l₇. alloc1 ! (λ l₈. alloc1 ! (λ l₉. alloc1 ! (λ l₁₀. alloc0 ! $ params1 ! $
-        pass1 ! (init ! 18 refl (tt, (tt, (record { fits = room₁ .0 }, tt)))) $ pass1 ! (init ! 16 refl (tt, (tt, (record { fits = room₂ .0 }, tt)))) $ pass1 ! (init ! 14 refl (tt, record { fits = m-fits })) $ pass1 ! (init ! 12 refl (typed 𝓤 H A W xs v is-xs)) $ pass0 ! $
-        assigns ! (of-opd ! (load ! (from ! (stop !)) (look ! 12 refl))) (from ! (stop !)) (init ! 10 refl (typed 𝓤 H A W xs v is-xs)) $
-        move ! (23 ∷ []) $ fsplit ! $ move ! (1 ∷ []) $ fsplit ! $ move ! (1 ∷ []) $ fsplit ! $ move ! (1 ∷ []) $ fsplit ! $ move ! (27 ∷ []) $ split ! $ move ! (1 ∷ []) $ split ! $
-        -- [token 2; true; token 1; the array; true; the number; the text; the book; _10; …]
-        move ! (7 ∷ []) $ use1 W (‵ Own₁ ⊛ ‵ Own₁) (shr-slice-copy 𝓤 H A W (named 0) κ₁ u8 .twice x₁ (s₁ ∷ [])) $ split ! $
-        move ! (8 ∷ []) $ use1 W (‵ Own₂ ⊛ ‵ Own₂) (shr-slice-copy 𝓤 H A W (named 1) κ₂ u8 .twice x₂ (s₂ ∷ [])) $ split ! $
-        move ! (6 ∷ 4 ∷ 2 ∷ 0 ∷ []) $ group ! 4 $ use1 W (raw (Begin 𝓤 H A mem″ run .pre to-start)) goes-start $
-        -- [what the start asks; the text; the book; true; the array; true; the number; _10; …]
-        calls-at ! fm (Begin 𝓤 H A mem″ run) known-start to-start (and-then ! (load ! (from ! (stop !)) (look ! 25 refl)) (and-then ! (load ! (from ! (stop !)) (look ! 23 refl)) (and-then ! (load ! (from ! (stop !)) (look ! 21 refl)) (no-more !)))) (λ w.
-        use1 W (later (some (λ (r : SequenceState). ((‵ (flft κ₁ q₁) ⊛ (‵ (flft κ₂ q₂) ⊛ ‵ ftrue)) ⊛ ‵ (OwnS r (w ∷ []))) ⊛ raw (ensured 𝓤 H A start.ended (start.clauses 𝓤 H A mem″ run) (κ₁, (κ₂, tt)) (x₁, (x₂, (m, tt))) tt r)))) (id⊢ 𝓤 _) $ await ! tt $ pick ! (λ r.
-        split ! $ move ! (1 ∷ []) $ use1 W (raw (fact 𝓤 (r ≡ startOf bk t (min m 512)))) (start-said 𝓤 H A mem″ run κ₁ κ₂ x₁ x₂ m r) $ heard ! (r ≡ startOf bk t (min m 512)) (λ e.
-        split ! $ split ! $ move ! (1 ∷ []) $ split ! $ move ! (3 ∷ []) $
-        -- [the state; token 2; true; token 1; the text; the book; true; the array; true; the number; _10; …]
-        peeks ! S.the-row (Is S.the-row) (shows 𝓤 H A S.the-row) r (w ∷ []) (λ is.
-        land ! (from ! (stop !)) (init ! 18 refl (LL.lawful S.the-type S′.the-laws 𝓤 H A W .typed r _ is .0)) $
-        assigns ! (addr ! (from ! (stop !))) (from ! (stop !)) (init ! 14 refl (tt, tt)) $
-        assigns ! (agg ! (and-then ! (load ! (from ! (stop !)) (look ! 14 refl)) (and-then ! (lit ! tt) (no-more !)))) (from ! (stop !)) (init ! 12 refl (tt, (tt, (record { fits = lit< tt }, tt)))) $
-        -- the array in _5 is its elements, and they are lent for a lifetime ν
-        move ! (20 ∷ 7 ∷ []) $ use2 W (‵ (cells (mem T.the-row) xs l₅ 0)) (laid 𝓤 H A W xs v l₅) $
-        lft-new ! tt (λ ν. move ! (1 ∷ []) $
-        use1 W (later (some (λ (δ : GName). ‵ (MutSlice (named 2) (ν ∷ []) T.the-row .own (x l₅ δ) (sliceVal (l₅, 0) (length xs) ∷ [])) ⊛ ‵ (flent (ν ∷ []) (Held T.the-row (length xs) l₅ 0 δ))))) (lends-slice 𝓤 H A W T.the-row (named 2) (ν ∷ []) xs l₅ 0 room) $ await ! tt $ pick ! (λ δ. split ! $
-        rewrite ! 0 (λ (k : ℕ). ‵ (MutSlice (named 2) (ν ∷ []) T.the-row .own (x l₅ δ) (sliceVal (l₅, 0) k ∷ []))) len refl $
-        -- [the slots; the lender's part; ν's token; the state; token 2; true; token 1; the text; the book; …]
-        move ! (6 ∷ 4 ∷ 2 ∷ 8 ∷ 7 ∷ 3 ∷ 0 ∷ []) $ group ! 7 $ use1 W (raw (Read 𝓤 H A mem″ run .pre (to-read l₅ ν δ r w))) (goes-read l₅ ν δ r w (starts r e)) $
-        calls-at ! fm (Read 𝓤 H A mem″ run) known-read (to-read l₅ ν δ r w) (and-then ! (load ! (from ! (stop !)) (look ! 23 refl)) (and-then ! (load ! (from ! (stop !)) (look ! 21 refl)) (and-then ! (load ! (from ! (stop !)) (look ! 14 refl)) (and-then ! (load ! (from ! (stop !)) (look ! 8 refl)) (no-more !))))) (λ w₂.
-        use1 W (later (some (λ (r₂ : SequenceAnswer). ((‵ (flft κ₁ q₁) ⊛ (‵ (flft κ₂ q₂) ⊛ (‵ (flft (ν ∷ []) fullShare) ⊛ ‵ ftrue))) ⊛ ‵ (N.the-row .own r₂ (w₂ ∷ []))) ⊛ raw (ensured 𝓤 H A read.ended (read.clauses 𝓤 H A mem″ run) (κ₁, (κ₂, (ν ∷ [], tt))) (x₁, (x₂, (r, (x l₅ δ, tt)))) tt r₂)))) (id⊢ 𝓤 _) $ await ! tt $ pick ! (λ r₂.
-        split ! $ move ! (1 ∷ []) $ use1 W (some (λ (us : Unit {0} × (Unit {0} × (Unit {0} × (List ClauseRecord × Unit {0})))). ‵ (lasts read.ended (κ₁, (κ₂, (ν ∷ [], tt))) (x₁, (x₂, (r, (x l₅ δ, tt)))) us) ⊛ raw (fact 𝓤 (Said r r₂ (us .1 .1 .1 .0))))) (id⊢ 𝓤 _) $ pick ! (λ us.
-        split ! $ move ! (1 ∷ []) $ heard ! (Said r r₂ (us .1 .1 .1 .0)) (λ e₂. fsplit ! $ drop ! $ fsplit ! $ drop ! $ fsplit ! $ drop ! $ fsplit ! $ fsplit ! $ move ! (1 ∷ []) $ feqL ! (λ len₂.
+        alloc1 ! (λ l₀. alloc1 ! (λ l₁. alloc1 ! (λ l₂. alloc1 ! (λ l₃. alloc1 ! (λ l₄. alloc1 ! (λ l₅. alloc1 ! (λ l₆. alloc1 ! (λ l₇. alloc1 ! (λ l₈. alloc1 ! (λ l₉. alloc1 ! (λ l₁₀. alloc1 ! (λ l₁₁. alloc1 ! (λ l₁₂. alloc1 ! (λ l₁₃. alloc1 ! (λ l₁₄. alloc1 ! (λ l₁₅. alloc0 ! $ params1 ! $
+        pass1 ! (init ! 28 refl (tt, (tt, (record { fits = room₁ .0 }, tt)))) $ pass1 ! (init ! 26 refl (tt, (tt, (record { fits = room₂ .0 }, tt)))) $ pass1 ! (init ! 24 refl (tt, record { fits = m-fits })) $ pass1 ! (init ! 22 refl (typed 𝓤 H A W xs v is-xs)) $ pass0 ! $
+        assigns ! (of-opd ! (load ! (from ! (stop !)) (look ! 22 refl))) (from ! (stop !)) (init ! 20 refl (typed 𝓤 H A W xs v is-xs)) $
+        -- the index is made
+        use0 W (‵ (Index .own zeros (blank ∷ []))) (index-made 𝓤 H A W) $ peeks ! Index (Is Index) (shows 𝓤 H A Index) zeros (blank ∷ []) (λ is-z.
+        assigns ! (rep ! 1024 (lit ! tt)) (from ! (stop !)) (init ! 19 refl (index-typed 𝓤 H A W zeros blank is-z)) $
+        assigns ! (addr ! (from ! (stop !))) (from ! (stop !)) (init ! 13 refl (tt, tt)) $
+        assigns ! (agg ! (and-then ! (load ! (from ! (stop !)) (look ! 13 refl)) (and-then ! (big-lit ! (record { fits = lit< tt })) (no-more !)))) (from ! (stop !)) (init ! 11 refl (tt, (tt, (record { fits = lit< tt }, tt)))) $
+        move ! (19 ∷ 0 ∷ []) $ use2 W (‵ (cells (mem u32) zeros l₆ 0)) (index-laid 𝓤 H A W zeros blank l₆) $
+        move ! (33 ∷ []) $ fsplit ! $ move ! (1 ∷ []) $ fsplit ! $ move ! (1 ∷ []) $ fsplit ! $ move ! (1 ∷ []) $ fsplit ! $ move ! (37 ∷ []) $ split ! $ move ! (1 ∷ []) $ split ! $
+        -- [token 2; true; token 1; the array; true; the number; the text; the book; the index; _15; …]
+        -- its numbers are lent for a lifetime ν
+        lft-new ! tt (λ ν. move ! (9 ∷ []) $
+        use1 W (later (some (λ (δ : GName). ‵ (MutSlice (named 2) (ν ∷ []) u32 .own (lent-at l₆ δ zeros) (sliceVal (l₆, 0) (length zeros) ∷ [])) ⊛ ‵ (flent (ν ∷ []) (Held u32 (length zeros) l₆ 0 δ))))) (lends-slice 𝓤 H A W u32 (named 2) (ν ∷ []) zeros l₆ 0 (index-room zeros (zeros-fresh .long))) $ await ! tt $ pick ! (λ δ. split ! $
+        rewrite ! 0 (λ (k : ℕ). ‵ (MutSlice (named 2) (ν ∷ []) u32 .own (lent-at l₆ δ zeros) (sliceVal (l₆, 0) k ∷ []))) (zeros-fresh .long) refl $
+        move ! (10 ∷ []) $ use1 W (‵ Own₁ ⊛ ‵ Own₁) (shr-slice-copy 𝓤 H A W (named 0) κ₁ u8 .twice x₁ (s₁ ∷ [])) $ split ! $
+        move ! (11 ∷ []) $ use1 W (‵ Own₂ ⊛ ‵ Own₂) (shr-slice-copy 𝓤 H A W (named 1) κ₂ u8 .twice x₂ (s₂ ∷ [])) $ split ! $
+        move ! (9 ∷ 7 ∷ 6 ∷ 2 ∷ 0 ∷ 4 ∷ []) $ group ! 6 $ use1 W (raw (Begin 𝓤 H A mem″ run .pre (to-start l₆ ν δ))) (goes-start l₆ ν δ) $
+        -- [what the start asks; the text; the book; the lender's part; true; the array; true; the number; _15; …]
+        calls-at ! fm (Begin 𝓤 H A mem″ run) known-start (to-start l₆ ν δ) (and-then ! (load ! (from ! (stop !)) (look ! 35 refl)) (and-then ! (load ! (from ! (stop !)) (look ! 33 refl)) (and-then ! (load ! (from ! (stop !)) (look ! 31 refl)) (and-then ! (load ! (from ! (stop !)) (look ! 18 refl)) (no-more !))))) (λ w.
+        use1 W (later (some (λ (r : SequenceState). ((‵ (flft κ₁ q₁) ⊛ (‵ (flft κ₂ q₂) ⊛ (‵ (flft (ν ∷ []) fullShare) ⊛ ‵ ftrue))) ⊛ ‵ (OwnS r (w ∷ []))) ⊛ raw (ensured 𝓤 H A start.ended (start.clauses 𝓤 H A mem″ run) (κ₁, (κ₂, (ν ∷ [], tt))) (x₁, (x₂, (m, (lent-at l₆ δ zeros, tt)))) tt r)))) (id⊢ 𝓤 _) $ await ! tt $ pick ! (λ r.
+        split ! $ move ! (1 ∷ []) $ use1 W (some (λ (zs : Unit {0} × (Unit {0} × (Unit {0} × (List ℕ × Unit {0})))). ‵ (lasts start.ended (κ₁, (κ₂, (ν ∷ [], tt))) (x₁, (x₂, (m, (lent-at l₆ δ zeros, tt)))) zs) ⊛ raw (fact 𝓤 (Begun r (zs .1 .1 .1 .0))))) (id⊢ 𝓤 _) $ pick ! (λ zs.
+        split ! $ move ! (1 ∷ []) $ heard ! (Begun r (zs .1 .1 .1 .0)) (λ e. fsplit ! $ drop ! $ fsplit ! $ drop ! $ fsplit ! $ drop ! $ fsplit ! $ fsplit ! $ move ! (1 ∷ []) $ feqL ! (λ len₁.
         move ! (2 ∷ []) $ split ! $ split ! $ move ! (1 ∷ []) $ split ! $ move ! (1 ∷ []) $ split ! $ move ! (4 ∷ []) $
-        -- [the answer; ν's token; true; token 2; token 1; the last list; true; the lender's part; …; _10; …]
+        -- [the state; ν's token; true; token 2; token 1; the index's last list; true; the text; the book; the lender's part; true; the array; true; the number; _15; …]
+        peeks ! S.the-row (Is S.the-row) (shows 𝓤 H A S.the-row) r (w ∷ []) (λ is.
+        land ! (from ! (stop !)) (init ! 30 refl (LL.lawful S.the-type S′.the-laws 𝓤 H A W .typed r _ is .0)) $
+        -- ν is ended, and the numbers are back
+        move ! (1 ∷ []) $ lft-end ! tt $ move ! (0 ∷ 9 ∷ 5 ∷ []) $ use3 W (later (‵ (Arr (mem u32) (length zeros) .lies (zs .1 .1 .1 .0) l₆ 0))) (slice-back 𝓤 H A W u32 (ν ∷ []) δ (zs .1 .1 .1 .0) (length zeros) l₆ 0) $ await ! tt $ fsplit ! $ drop ! $
+        -- [the index; the state; true; token 2; token 1; true; the text; the book; true; the array; true; the number; _15; …]
+        assigns ! (addr ! (from ! (stop !))) (from ! (stop !)) (init ! 20 refl (tt, tt)) $
+        assigns ! (agg ! (and-then ! (load ! (from ! (stop !)) (look ! 20 refl)) (and-then ! (big-lit ! (record { fits = lit< tt })) (no-more !)))) (from ! (stop !)) (init ! 18 refl (tt, (tt, (record { fits = lit< tt }, tt)))) $
+        assigns ! (addr ! (from ! (stop !))) (from ! (stop !)) (init ! 16 refl (tt, tt)) $
+        assigns ! (agg ! (and-then ! (load ! (from ! (stop !)) (look ! 16 refl)) (and-then ! (lit ! tt) (no-more !)))) (from ! (stop !)) (init ! 14 refl (tt, (tt, (record { fits = lit< tt }, tt)))) $
+        -- the array in _5 is its elements, and they are lent for a lifetime ν₃
+        move ! (31 ∷ 9 ∷ []) $ use2 W (‵ (cells (mem T.the-row) xs l₅ 0)) (laid 𝓤 H A W xs v l₅) $
+        lft-new ! tt (λ ν₃. move ! (1 ∷ []) $
+        use1 W (later (some (λ (δ₃ : GName). ‵ (MutSlice (named 3) (ν₃ ∷ []) T.the-row .own (x l₅ δ₃) (sliceVal (l₅, 0) (length xs) ∷ [])) ⊛ ‵ (flent (ν₃ ∷ []) (Held T.the-row (length xs) l₅ 0 δ₃))))) (lends-slice 𝓤 H A W T.the-row (named 3) (ν₃ ∷ []) xs l₅ 0 room) $ await ! tt $ pick ! (λ δ₃. split ! $
+        rewrite ! 0 (λ (k : ℕ). ‵ (MutSlice (named 3) (ν₃ ∷ []) T.the-row .own (x l₅ δ₃) (sliceVal (l₅, 0) k ∷ []))) len refl $
+        -- [the slots; the lender's part; ν₃'s token; the index; the state; true; token 2; token 1; true; the text; the book; …]
+        -- and the index as `&` for a lifetime ν₂
+        lft-new ! tt (λ ν₂. move ! (4 ∷ []) $
+        use1 W (later (some (λ (δ₂ : GName). ‵ (ShrSlice (named 1) (ν₂ ∷ []) u32 .own (lent-at l₆ δ₂ (zs .1 .1 .1 .0)) (sliceVal (l₆, 0) (length (zs .1 .1 .1 .0)) ∷ [])) ⊛ ‵ (flent (ν₂ ∷ []) (arr-parts (shares u32) (length (zs .1 .1 .1 .0)) .part fullShare (zs .1 .1 .1 .0) l₆ 0))))) (index-shared 𝓤 H A W (named 1) (ν₂ ∷ []) (zs .1 .1 .1 .0) l₆ (long (zs .1 .1 .1 .0) len₁)) $ await ! tt $ pick ! (λ δ₂. split ! $
+        rewrite ! 0 (λ (k : ℕ). ‵ (ShrSlice (named 1) (ν₂ ∷ []) u32 .own (lent-at l₆ δ₂ (zs .1 .1 .1 .0)) (sliceVal (l₆, 0) k ∷ []))) (long (zs .1 .1 .1 .0) len₁) refl $
+        -- [the index; its lender's part; ν₂'s token; the slots; their lender's part; ν₃'s token; the state; true; token 2; token 1; true; the text; the book; …]
+        move ! (9 ∷ 2 ∷ 8 ∷ 5 ∷ 12 ∷ 0 ∷ 11 ∷ 6 ∷ 3 ∷ []) $ group ! 9 $ use1 W (raw (Read 𝓤 H A mem″ run .pre (to-read l₆ ν₂ δ₂ (zs .1 .1 .1 .0) l₅ ν₃ δ₃ r w))) (goes-read l₆ ν₂ δ₂ (zs .1 .1 .1 .0) l₅ ν₃ δ₃ r w (starts r (e .0)) (e .1)) $
+        calls-at ! fm (Read 𝓤 H A mem″ run) known-read (to-read l₆ ν₂ δ₂ (zs .1 .1 .1 .0) l₅ ν₃ δ₃ r w) (and-then ! (load ! (from ! (stop !)) (look ! 34 refl)) (and-then ! (load ! (from ! (stop !)) (look ! 14 refl)) (and-then ! (load ! (from ! (stop !)) (look ! 32 refl)) (and-then ! (load ! (from ! (stop !)) (look ! 24 refl)) (and-then ! (load ! (from ! (stop !)) (look ! 10 refl)) (no-more !)))))) (λ w₂.
+        use1 W (later (some (λ (r₂ : SequenceAnswer). ((‵ (flft κ₁ q₁) ⊛ (‵ (flft (ν₂ ∷ []) fullShare) ⊛ (‵ (flft κ₂ q₂) ⊛ (‵ (flft (ν₃ ∷ []) fullShare) ⊛ ‵ ftrue)))) ⊛ ‵ (N.the-row .own r₂ (w₂ ∷ []))) ⊛ raw (ensured 𝓤 H A read.ended (read.clauses 𝓤 H A mem″ run) (κ₁, (ν₂ ∷ [], (κ₂, (ν₃ ∷ [], tt)))) (x₁, (lent-at l₆ δ₂ (zs .1 .1 .1 .0), (x₂, (r, (x l₅ δ₃, tt))))) tt r₂)))) (id⊢ 𝓤 _) $ await ! tt $ pick ! (λ r₂.
+        split ! $ move ! (1 ∷ []) $ use1 W (some (λ (us : Unit {0} × (Unit {0} × (Unit {0} × (Unit {0} × (List ClauseRecord × Unit {0}))))). ‵ (lasts read.ended (κ₁, (ν₂ ∷ [], (κ₂, (ν₃ ∷ [], tt)))) (x₁, (lent-at l₆ δ₂ (zs .1 .1 .1 .0), (x₂, (r, (x l₅ δ₃, tt))))) us) ⊛ raw (fact 𝓤 (Said r r₂ (us .1 .1 .1 .1 .0))))) (id⊢ 𝓤 _) $ pick ! (λ us.
+        split ! $ move ! (1 ∷ []) $ heard ! (Said r r₂ (us .1 .1 .1 .1 .0)) (λ e₂. fsplit ! $ drop ! $ fsplit ! $ drop ! $ fsplit ! $ drop ! $ fsplit ! $ drop ! $ fsplit ! $ fsplit ! $ move ! (1 ∷ []) $ feqL ! (λ len₂.
+        move ! (2 ∷ []) $ split ! $ split ! $ move ! (1 ∷ []) $ split ! $ move ! (1 ∷ []) $ split ! $ move ! (1 ∷ []) $ split ! $ move ! (5 ∷ []) $
+        -- [the answer; ν₃'s token; true; token 2; ν₂'s token; token 1; the last list; true; the index's lender's part; the slots'; …; _15; …]
         peeks ! N.the-row (Is N.the-row) (shows 𝓤 H A N.the-row) r₂ (w₂ ∷ []) (λ is₂.
-        land ! (from ! (stop !)) (init ! 18 refl (EL.lawful N.the-type N′.the-laws 𝓤 H A W tt .typed r₂ _ is₂ .0)) $
-        -- the lifetime is ended, and the elements are back at the last list: the array is read whole
-        move ! (1 ∷ []) $ lft-end ! tt $ move ! (0 ∷ 7 ∷ 5 ∷ []) $ use3 W (later (‵ (Arr (mem T.the-row) (length xs) .lies (us .1 .1 .1 .0) l₅ 0))) (slice-back 𝓤 H A W T.the-row (ν ∷ []) δ (us .1 .1 .1 .0) (length xs) l₅ 0) $ await ! tt $ fsplit ! $ drop ! $
-        use1 W (‵ (fat fullShare slots-ty l₅ 0 (mach (us .1 .1 .1 .0))) ⊛ ‵ (Slots .own (us .1 .1 .1 .0) (mach (us .1 .1 .1 .0) ∷ []))) (raised 𝓤 H A W (us .1 .1 .1 .0) l₅ (len₂ ∙ len)) $ split ! $ move ! (1 ∷ []) $
-        peeks ! Slots (Is Slots) (shows 𝓤 H A Slots) (us .1 .1 .1 .0) (mach (us .1 .1 .1 .0) ∷ []) (λ is-zs.
-        -- [what the array owns; _5; the answer; true; token 2; token 1; …; the number; _10; …]
-        assigns ! (of-opd ! (load ! (from ! (stop !)) (look ! 1 refl))) (from ! (stop !)) (init ! 11 refl (typed 𝓤 H A W (us .1 .1 .1 .0) (mach (us .1 .1 .1 .0)) is-zs)) $
-        move ! (2 ∷ 0 ∷ []) $ use2 W (raw (Pair 𝓤 H A mem″ run .pre (to-pair r₂ w₂ (us .1 .1 .1 .0)))) (goes-pair r₂ w₂ (us .1 .1 .1 .0)) $
-        calls-at ! fm (Pair 𝓤 H A mem″ run) known-pair (to-pair r₂ w₂ (us .1 .1 .1 .0)) (and-then ! (load ! (from ! (stop !)) (look ! 16 refl)) (and-then ! (load ! (from ! (stop !)) (look ! 10 refl)) (no-more !))) (λ w₃.
-        use1 W (later (some (λ (p : Sequence512). (‵ ftrue ⊛ ‵ (Q.the-row .own p (w₃ ∷ []))) ⊛ raw (ensured 𝓤 H A pair.ended (pair.clauses 𝓤 H A mem″ run) tt (r₂, (us .1 .1 .1 .0, tt)) tt p)))) (id⊢ 𝓤 _) $ await ! tt $ pick ! (λ p.
-        split ! $ move ! (1 ∷ []) $ use1 W (raw (fact 𝓤 (Paired 𝓤 H A mem″ run r₂ (us .1 .1 .1 .0) p))) (pair-said 𝓤 H A mem″ run r₂ (us .1 .1 .1 .0) p) $ heard ! (Paired 𝓤 H A mem″ run r₂ (us .1 .1 .1 .0) p) (λ e₃. split ! $ move ! (1 ∷ []) $
-        -- [the pair; true; _5; true; token 2; token 1; …; the number; _10; …]
+        land ! (from ! (stop !)) (init ! 29 refl (EL.lawful N.the-type N′.the-laws 𝓤 H A W tt .typed r₂ _ is₂ .0)) $
+        -- ν₂ is ended, and _6 has its array again
+        move ! (4 ∷ []) $ lft-end ! tt $ move ! (0 ∷ 8 ∷ []) $ use2 W (later (‵ (fat fullShare index-ty l₆ 0 (index-mach (zs .1 .1 .1 .0))))) (index-back 𝓤 H A W (ν₂ ∷ []) (zs .1 .1 .1 .0) l₆ (long (zs .1 .1 .1 .0) len₁)) $ await ! tt $
+        -- ν₃ is ended, and the elements are back at the last list: the array is read whole
+        move ! (2 ∷ []) $ lft-end ! tt $ move ! (0 ∷ 8 ∷ 6 ∷ []) $ use3 W (later (‵ (Arr (mem T.the-row) (length xs) .lies (us .1 .1 .1 .1 .0) l₅ 0))) (slice-back 𝓤 H A W T.the-row (ν₃ ∷ []) δ₃ (us .1 .1 .1 .1 .0) (length xs) l₅ 0) $ await ! tt $ fsplit ! $ drop ! $
+        use1 W (‵ (fat fullShare slots-ty l₅ 0 (mach (us .1 .1 .1 .1 .0))) ⊛ ‵ (Slots .own (us .1 .1 .1 .1 .0) (mach (us .1 .1 .1 .1 .0) ∷ []))) (raised 𝓤 H A W (us .1 .1 .1 .1 .0) l₅ (len₂ ∙ len)) $ split ! $ move ! (1 ∷ []) $
+        peeks ! Slots (Is Slots) (shows 𝓤 H A Slots) (us .1 .1 .1 .1 .0) (mach (us .1 .1 .1 .1 .0) ∷ []) (λ is-zs.
+        -- [what the array owns; _5; _6; the answer; true; token 2; token 1; …; the number; _15; …]
+        assigns ! (of-opd ! (load ! (from ! (stop !)) (look ! 1 refl))) (from ! (stop !)) (init ! 13 refl (typed 𝓤 H A W (us .1 .1 .1 .1 .0) (mach (us .1 .1 .1 .1 .0)) is-zs)) $
+        move ! (3 ∷ 0 ∷ []) $ use2 W (raw (Pair 𝓤 H A mem″ run .pre (to-pair r₂ w₂ (us .1 .1 .1 .1 .0)))) (goes-pair r₂ w₂ (us .1 .1 .1 .1 .0)) $
+        calls-at ! fm (Pair 𝓤 H A mem″ run) known-pair (to-pair r₂ w₂ (us .1 .1 .1 .1 .0)) (and-then ! (load ! (from ! (stop !)) (look ! 26 refl)) (and-then ! (load ! (from ! (stop !)) (look ! 12 refl)) (no-more !))) (λ w₃.
+        use1 W (later (some (λ (p : Sequence512). (‵ ftrue ⊛ ‵ (Q.the-row .own p (w₃ ∷ []))) ⊛ raw (ensured 𝓤 H A pair.ended (pair.clauses 𝓤 H A mem″ run) tt (r₂, (us .1 .1 .1 .1 .0, tt)) tt p)))) (id⊢ 𝓤 _) $ await ! tt $ pick ! (λ p.
+        split ! $ move ! (1 ∷ []) $ use1 W (raw (fact 𝓤 (Paired 𝓤 H A mem″ run r₂ (us .1 .1 .1 .1 .0) p))) (pair-said 𝓤 H A mem″ run r₂ (us .1 .1 .1 .1 .0) p) $ heard ! (Paired 𝓤 H A mem″ run r₂ (us .1 .1 .1 .1 .0) p) (λ e₃. split ! $ move ! (1 ∷ []) $
+        -- [the pair; true; _5; _6; true; token 2; token 1; …; the number; _15; …]
         peeks ! Q.the-row (Is Q.the-row) (shows 𝓤 H A Q.the-row) p (w₃ ∷ []) (λ is₃.
-        land ! (from ! (stop !)) (init ! 30 refl (LL.lawful Q.the-type Q′.the-laws 𝓤 H A W .typed p _ is₃ .0)) $
-        returns ! (look ! 30 refl) $ forget ! 2 refl $ forget ! 11 refl $ forget ! 13 refl $ forget ! 15 refl $ forget ! 17 refl $ forget ! 19 refl $ forget ! 22 refl $ forget ! 24 refl $ forget ! 26 refl $ forget ! 28 refl $ forget ! 30 refl $
-        move ! (30 ∷ 31 ∷ []) $ free1 ! $ move ! (28 ∷ 29 ∷ []) $ free1 ! $ move ! (26 ∷ 27 ∷ []) $ free1 ! $ move ! (24 ∷ 25 ∷ []) $ free1 ! $ move ! (22 ∷ 23 ∷ []) $ free1 ! $ move ! (2 ∷ 21 ∷ []) $ free1 ! $
-        move ! (18 ∷ 19 ∷ []) $ free1 ! $ move ! (16 ∷ 17 ∷ []) $ free1 ! $ move ! (14 ∷ 15 ∷ []) $ free1 ! $ move ! (12 ∷ 13 ∷ []) $ free1 ! $ move ! (10 ∷ 11 ∷ []) $ free1 ! $ free0 ! $
-        keep ! (4 ∷ 3 ∷ 0 ∷ []) $ by ! (exits p w₃ (gives r r₂ (us .1 .1 .1 .0) p e e₂ e₃))))))))))))))))))))))))))))))
+        land ! (from ! (stop !)) (init ! 41 refl (LL.lawful Q.the-type Q′.the-laws 𝓤 H A W .typed p _ is₃ .0)) $
+        returns ! (look ! 41 refl) $ forget ! 2 refl $ forget ! 3 refl $ forget ! 13 refl $ forget ! 15 refl $ forget ! 17 refl $ forget ! 19 refl $ forget ! 21 refl $ forget ! 23 refl $ forget ! 25 refl $ forget ! 27 refl $ forget ! 29 refl $ forget ! 33 refl $ forget ! 35 refl $ forget ! 37 refl $ forget ! 39 refl $ forget ! 41 refl $
+        move ! (41 ∷ 42 ∷ []) $ free1 ! $ move ! (39 ∷ 40 ∷ []) $ free1 ! $ move ! (37 ∷ 38 ∷ []) $ free1 ! $ move ! (35 ∷ 36 ∷ []) $ free1 ! $ move ! (33 ∷ 34 ∷ []) $ free1 ! $ move ! (2 ∷ 32 ∷ []) $ free1 ! $ move ! (2 ∷ 30 ∷ []) $ free1 ! $ move ! (27 ∷ 28 ∷ []) $ free1 ! $
+        move ! (25 ∷ 26 ∷ []) $ free1 ! $ move ! (23 ∷ 24 ∷ []) $ free1 ! $ move ! (21 ∷ 22 ∷ []) $ free1 ! $ move ! (19 ∷ 20 ∷ []) $ free1 ! $ move ! (17 ∷ 18 ∷ []) $ free1 ! $ move ! (15 ∷ 16 ∷ []) $ free1 ! $ move ! (13 ∷ 14 ∷ []) $ free1 ! $ move ! (11 ∷ 12 ∷ []) $ free1 ! $ free0 ! $
+        keep ! (4 ∷ 3 ∷ 0 ∷ []) $ by ! (exits p w₃ (gives r r₂ (us .1 .1 .1 .1 .0) p (e .0) e₂ e₃))))))))))))))))))))))))))))))))))))))))))
       where
+        long : (zs : List ℕ) → length zs ≡ length zeros → length zs ≡ 1024
+        long zs e = e ∙ zeros-fresh .long
+
         starts : (r : SequenceState) → r ≡ startOf bk t (min m 512) → Started bk t (length xs) r
         starts r e = subst (Started bk t (length xs)) (sym e) (started-more bk t (min m 512) (length xs) (omega (arith, len)))
 

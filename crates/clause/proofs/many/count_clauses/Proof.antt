@@ -49,7 +49,7 @@ count-clauses-spec =
     (λ c. omega arith)
     (λ c. omega arith)
     (λ c. (stepped (c .before .before), omega arith))
-    (λ c κs. proper-step _ _ _ _ (c .before .before .before .before .before .before .before .before .pre .0) _ _ (stepped (c .before .before)))
+    (λ c κs. let p = c .before .before .before .before .before .before .before .before .pre in (proper-step _ _ _ _ (p .0) _ _ (stepped (c .before .before)), p .1))
     returns
-    (λ c κs. proper-step _ _ _ _ (c .before .before .before .before .before .pre .0) _ _ (c .before .loop .inv .0))
+    (λ c κs. let p = c .before .before .before .before .before .pre in (proper-step _ _ _ _ (p .0) _ _ (c .before .loop .inv .0), p .1))
     returns-2)

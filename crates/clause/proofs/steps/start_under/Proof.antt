@@ -6,8 +6,8 @@ use Rattle.rulebook.specs.Check.{bookGives}
 use Rattle.rulebook.proofs.Forms.{valid-book}
 use Rattle.clause.specs.Steps.{startOf}
 use Rattle.clause.proofs.Reading.{start-is, wrong-book}
-use Rattle.clause.proofs.many.start_under.Statement.{statement}
-use Rattle.clause.proofs.many.start_under.Tie as tie
+use Rattle.clause.proofs.steps.start_under.Statement.{statement}
+use Rattle.clause.proofs.steps.start_under.Tie as tie
 
 returns : tie.Need-returns
 unfolding startOf
