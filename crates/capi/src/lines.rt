@@ -73,7 +73,15 @@ pub fn answer_lines(
             let stop = line_end(lines.len(), at, ends[i]);
             let line = &lines[at..stop];
             let answer = many::line_answer(
-                language, prefix, book, checked, index, line, text, map, slots,
+                language,
+                prefix,
+                book,
+                checked,
+                index,
+                line,
+                text,
+                map,
+                slots,
             );
             let numbers = line_numbers(answer);
             answers[i] = numbers;

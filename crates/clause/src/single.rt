@@ -17,7 +17,6 @@ ghost use mathlib.Core.Option.{none};
 ghost use Prim.Native.Nat.{suc, _≤_, _<_};
 ghost use lib.ListN.{length, drop};
 ghost use Rattle.refusal.specs.Answer.{maxLength};
-ghost use Rattle.refusal.specs.Table.{numberOf};
 ghost use Rattle.delimiter.specs.Matching.{matching};
 ghost use Rattle.lexer.specs.Trivia.{skip};
 ghost use Rattle.rulebook.specs.Book.{bookOf, headerOf};

@@ -19,7 +19,6 @@ use rulebook::ClauseRule;
 use rulebook::Header;
 ghost use mathlib.Core.Path.{_≡_};
 ghost use mathlib.Core.Bool.{cond};
-ghost use mathlib.Core.Option.{none};
 ghost use Prim.Native.Nat.{_≤_, _<_, min};
 ghost use lib.ListN.{length};
 ghost use lib.Dec.{eqb};

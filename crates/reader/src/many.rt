@@ -27,7 +27,17 @@ pub fn line_answer(
     ensures { λ r. ⌜ lineGives r
         ≡ lineCall language prefix (now (book .entry)) (now (line .entry)) (length (now (text .entry))) (length (now (map .entry))) slots .answer ⌝ }
 {
-    let head = heading::head_under(language, prefix, book, checked, index, line, text, map, slots);
+    let head = heading::head_under(
+        language,
+        prefix,
+        book,
+        checked,
+        index,
+        line,
+        text,
+        map,
+        slots,
+    );
     let n = head.length;
     let start = head.start;
     let clauses = clause::many::count_clauses(book, index, &text[..n], start, slots);

@@ -1,17 +1,15 @@
 -- The index of a book is whole once both kinds of its entries are in it; of a book with a fault nothing is said.
 -- Assumes nothing.
 use mathlib.Core.Path.{_≡_, refl, sym, _∙_}
-use mathlib.Core.Option.{Option, some, none}
+use mathlib.Core.Option.{some, none}
 use mathlib.Core.List.{List, []}
-use Prim.Native.Nat.{ℕ, zero, suc, _+_, _*_, _/_, _<_, _≤_}
+use Prim.Native.Nat.{ℕ, zero, suc, _+_, _*_}
 use native.Mathlib.Omega.{arith}
-use lib.ListN.{length, getD, replicate, length-replicate}
+use lib.ListN.{getD, replicate, length-replicate}
 use Rattle.rulebook.specs.declared.Header.{Header}
-use Rattle.rulebook.specs.declared.Expect.the-variants.{HeaderByte}
-use Rattle.rulebook.specs.Format.{badFrom}
 use Rattle.rulebook.specs.Book.{entriesIn, clausesOf, headerOf, bookOf}
-use Rattle.rulebook.specs.Check.{HasForm, repeatFrom, orElse, bookFault}
-use Rattle.rulebook.specs.Index.{Chains, Indexed, Fresh, Blank, Elsewhere, Looked, Indexes}
+use Rattle.rulebook.specs.Check.{HasForm, repeatFrom, bookFault}
+use Rattle.rulebook.specs.Index.{Indexed, Fresh, Blank, Elsewhere, Indexes}
 use Rattle.rulebook.proofs.Finding.{book-directives, book-clauses}
 use Rattle.rulebook.proofs.Indexing.{some-none}
 
@@ -82,25 +80,10 @@ module _ (bs : List ℕ) where
         → HasForm bs → Indexes bs after
     whole before after d i k c f = record {
       directives = λ b. rw (← e) (record {
-        told = λ _. rw (lead-directives) (indexed-still _ _ _ before after (rw lead-clauses at k) (rw lead-directives at i));
+        told = rw (lead-directives) (indexed-still _ _ _ before after (rw lead-clauses at k) (rw lead-directives at i));
         single = d;
       });
       clauses = λ b.
           let s : repeatFrom [] (entriesIn (h .clauses) bs) ≡ none = rw (book-clauses bs h e) at (sym (fault-left f (rw (book-directives bs h e) d)) ∙ b) in
-          rw (← e) (record { told = λ _. c s; single = s });
+          rw (← e) (record { told = c s; single = s });
     }
-
-  -- no name of a valid book repeats another, so that a look-up needs no index
-  either : (a b : Option ℕ) → orElse a b ≡ none → (a ≡ none) × (b ≡ none)
-  either none b h = (refl, h)
-  either (some p) b h = absurd (some-none h)
-
-  single : bookFault bs ≡ none → (repeatFrom [] (entriesIn (headerOf bs .directives) bs) ≡ none) × (repeatFrom [] (entriesIn (headerOf bs .clauses) bs) ≡ none)
-  unfolding bookFault bookOf
-  single h = either _ _ (either (badFrom (HeaderByte 0) 0 bs) _ h .1)
-
-  pub no-index : (index : List ℕ) → length index ≡ 0 → Indexes bs index
-  no-index index e = record {
-    directives = λ h. record { told = λ l. absurd (omega arith); single = single h .0 };
-    clauses = λ h. record { told = λ l. absurd (omega arith); single = single h .1 };
-  }

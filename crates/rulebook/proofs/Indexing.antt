@@ -4,7 +4,7 @@ use mathlib.Core.Path.{_≡_, refl, sym, ap, _∙_}
 use mathlib.Core.Bool.{Bool, true, false, cond, _&&_, _||_, true≢false}
 use mathlib.Core.Option.{Option, some, none}
 use mathlib.Core.List.{List, [], _∷_, _++_, append-assoc, append-nil}
-use Prim.Native.Nat.{ℕ, zero, suc, _+_, _-_, _*_, _/_, _<_, _≤_}
+use Prim.Native.Nat.{ℕ, zero, suc, _+_, _-_, _*_, _<_, _≤_}
 use native.Mathlib.Numerals.{add-one}
 use native.Mathlib.Omega.{arith}
 use lib.ListN.{length, getD, set, length-set}
@@ -20,7 +20,7 @@ use Rattle.rulebook.specs.Check.{isNamed, repeatFrom}
 use Rattle.rulebook.specs.Lookup.{findFrom}
 use Rattle.rulebook.specs.Signature.{signature}
 use Rattle.rulebook.specs.Index.{nameOf, slotOf, lastSlot, lastNamed, Chains, Blank, Elsewhere}
-use Rattle.rulebook.proofs.Laying.{laid-name, entries-snoc, place-snoc}
+use Rattle.rulebook.proofs.Laying.{entries-snoc, place-snoc}
 use Rattle.rulebook.proofs.Repeating.{isFound, named-found}
 use Rattle.rulebook.proofs.Signatures.{signed-apart}
 

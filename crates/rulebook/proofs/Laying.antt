@@ -1,17 +1,14 @@
--- Laws of entries that lie inside a book: the next one, one more at the end, fewer of them; and what is looked up among them.
+-- Laws of entries that lie inside a book: the next one, one more at the end, fewer of them.
 -- A law about a next entry speaks of n entries, m + 1 of them, and of the range r of the first one's name. Assumes nothing.
 use mathlib.Core.Path.{_≡_, refl}
-use mathlib.Core.Bool.{true, false}
 use mathlib.Core.List.{List, [], _∷_, _++_}
 use Prim.Native.Nat.{ℕ, zero, suc, _+_, _<_, _≤_}
 use native.Mathlib.Numerals.{add-one}
 use native.Mathlib.Omega.{arith}
 use lib.ListN.{length, getD}
 use Rattle.ascii.specs.declared.Range.{Range}
-use Rattle.ascii.specs.Text.{sameBy, part}
-use Rattle.rulebook.specs.declared.EntryFound.the-variants.{At, Nothing}
+use Rattle.ascii.specs.Text.{part}
 use Rattle.rulebook.specs.Book.{ruleLed, nameAt, entryAt, entriesFrom, placeAfter, Laid}
-use Rattle.rulebook.specs.Lookup.{findFrom}
 
 module _ (lead : ℕ) (bs : List ℕ) where
   -- where entries lie, the first begins inside the book
@@ -66,19 +63,3 @@ module _ (lead : ℕ) (bs : List ℕ) where
   unfolding placeAfter
   place-snoc zero at = refl
   place-snoc (suc k) at = let q : suc k + 1 ≡ suc (k + 1) = omega arith in rw (q, place-snoc k (nameAt lead at bs .end))
-
-  -- a name is the next entry's, or is looked for further on, or nowhere
-  module _ (f : ℕ → ℕ) (name : List ℕ) where
-    pub find-here : (i n m at : ℕ) (r : Range) → n ≡ m + 1 → r ≡ nameAt lead at bs → sameBy f (part bs r) name ≡ true
-        → findFrom f i name (entriesFrom lead n at bs) ≡ At i at
-    unfolding entriesFrom findFrom
-    find-here i n m at r e q h = rw (e, add-one m, rw q at h)
-
-    pub find-later : (i n m at : ℕ) (r : Range) → n ≡ m + 1 → r ≡ nameAt lead at bs → sameBy f (part bs r) name ≡ false
-        → findFrom f i name (entriesFrom lead n at bs) ≡ findFrom f (i + 1) name (entriesFrom lead m (r .end) bs)
-    unfolding entriesFrom findFrom
-    find-later i n m at r e q h = rw (e, add-one m, add-one i, rw q at h, q)
-
-    pub find-none : (i n at : ℕ) → n ≡ 0 → findFrom f i name (entriesFrom lead n at bs) ≡ Nothing
-    unfolding entriesFrom findFrom
-    find-none i n at e = rw e

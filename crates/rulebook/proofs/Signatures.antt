@@ -10,7 +10,7 @@ use lib.ListN.{length, getD, drop, drop-of-length-le}
 use lib.Seq.{drop-cons}
 use lib.Dec.{eqb}
 use borrow.Author.Tests.{eqb-true}
-use Rattle.ascii.specs.Ascii.{isUpper, fold}
+use Rattle.ascii.specs.Ascii.{isUpper}
 use Rattle.ascii.specs.Text.{sameBy, comparing}
 use Rattle.rulebook.specs.Signature.{signatureFrom}
 

@@ -60,12 +60,12 @@ pub record Elsewhere (lead : ℕ) (before after : List ℕ) : Type 0 where
   pub long : length after ≡ 1024
   pub kept : (j : ℕ) → (j / 512 ≡ lead → ⊥) → getD after j 0 ≡ getD before j 0
 
--- What a look-up among entries needs: an index that is not empty tells of all of them, and no two of them have one name.
+-- What a look-up among entries needs: the index tells of all of them, and no two of them have one name.
 pub record Looked (es : Entries) (bs index : List ℕ) : Type 0 where
-  pub told : 0 < length index → Indexed (es .lead) (es .first) (es .count) bs index
+  pub told : Indexed (es .lead) (es .first) (es .count) bs index
   pub single : repeatFrom [] (entriesIn es bs) ≡ none
 
--- An index of a valid book, or none: it is empty, or tells of the entries of both kinds.
+-- An index of a book: if the book is valid it tells of the entries of both kinds.
 pub record Indexes (bs index : List ℕ) : Type 0 where
   pub directives : bookFault bs ≡ none → Looked (headerOf bs .directives) bs index
   pub clauses : bookFault bs ≡ none → Looked (headerOf bs .clauses) bs index

@@ -2,12 +2,10 @@
 use crate::Entries;
 use crate::EntryFound;
 use crate::format::wide;
-use crate::lookup::find_entry;
 use crate::lookup::name_at;
 use crate::lookup::same;
 ghost use mathlib.Core.Path.{_≡_};
-ghost use Prim.Native.Nat.{_<_, _≤_};
-ghost use lib.ListN.{length};
+ghost use Prim.Native.Nat.{_<_};
 ghost use Rattle.ascii.specs.Text.{comparing};
 ghost use Rattle.rulebook.specs.Book.{entriesIn, LaidIn};
 ghost use Rattle.rulebook.specs.Lookup.{findFrom};
@@ -67,15 +65,18 @@ pub fn last_named(
     EntryFound::Nothing
 }
 
-// The entry that has a name, by an index or, if it is empty, one after another. There is no second one.
-pub fn look_up(book: &[u8], entries: Entries, index: &[u32], name: &[u8], ignore_case: bool) -> EntryFound
+// The entry that has a name. There is no second one.
+pub fn look_up(
+    book: &[u8],
+    entries: Entries,
+    index: &[u32],
+    name: &[u8],
+    ignore_case: bool,
+) -> EntryFound
     requires { ⌜ LaidIn entries (now book) ⌝ }
     requires { ⌜ Looked entries (now book) (now index) ⌝ }
     ensures { λ r. ⌜ r ≡ findFrom (comparing «ignore_case») 0 (now (name .entry)) (entriesIn entries (now (book .entry))) ⌝ }
 {
-    if index.len() == 0 {
-        return find_entry(book, entries, name, ignore_case);
-    }
     let mark = signature(name);
     last_named(book, entries, index, mark, name, ignore_case)
 }

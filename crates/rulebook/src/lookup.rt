@@ -18,9 +18,9 @@ ghost use lib.ListN.{length, take, drop};
 ghost use lib.Dec.{eqb};
 ghost use Rattle.ascii.specs.Text.{sameBy, comparing};
 ghost use Rattle.rulebook.specs.Format.{ruleFor};
-ghost use Rattle.rulebook.specs.Book.{ruleSaid, nameAt, placeAfter, Laid, entriesIn, LaidIn, headerOf, bookOf, noHeader};
+ghost use Rattle.rulebook.specs.Book.{ruleSaid, nameAt, placeAfter, Laid, LaidIn, headerOf, bookOf, noHeader};
 ghost use Rattle.rulebook.specs.Check.{HasForm, bookFault, bookCall, bookGives};
-ghost use Rattle.rulebook.specs.Lookup.{findFrom, clauseEntry};
+ghost use Rattle.rulebook.specs.Lookup.{clauseEntry};
 ghost use Rattle.rulebook.specs.Index.{Looked};
 
 // Whether two bytes compare equal. Bytes that differ, and not by the 32 between the cases, need no class.
@@ -154,28 +154,6 @@ pub fn header_under(book: &[u8], verdict: BookAnswer) -> Header
         BookAnswer::Valid => read_header(book),
         BookAnswer::Refused(_) => no_header(),
     }
-}
-
-// The first of the entries that has a name.
-pub fn find_entry(book: &[u8], entries: Entries, name: &[u8], ignore_case: bool) -> EntryFound
-    requires { ⌜ LaidIn entries (now book) ⌝ }
-    ensures { λ r. ⌜ r ≡ findFrom (comparing «ignore_case») 0 (now (name .entry)) (entriesIn entries (now (book .entry))) ⌝ }
-{
-    let lead = entries.lead;
-    let count = entries.count;
-    let mut at = entries.first;
-    let mut i = 0;
-    while i < count {
-        let range = name_at(book, lead, at);
-        let start = range.start;
-        let end = range.end;
-        if same(&book[start..end], name, ignore_case) {
-            return EntryFound::At(i, at);
-        }
-        at = end;
-        i += 1;
-    }
-    EntryFound::Nothing
 }
 
 // The entry of a clause's name, and its rule.

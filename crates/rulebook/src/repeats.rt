@@ -12,7 +12,7 @@ ghost use mathlib.Core.List.{[]};
 ghost use Prim.Native.Nat.{_<_, _≤_};
 ghost use Rattle.ascii.specs.Ascii.{fold};
 ghost use Rattle.ascii.specs.Text.{foundAt};
-ghost use Rattle.rulebook.specs.Book.{entriesIn, LaidIn, headerOf, bookOf};
+ghost use Rattle.rulebook.specs.Book.{entriesIn, LaidIn, bookOf};
 ghost use Rattle.rulebook.specs.Check.{isNamed, repeatFrom, orElse, HasForm};
 ghost use Rattle.rulebook.specs.Signature.{signature as signatureOf};
 ghost use Rattle.rulebook.specs.Index.{Indexed, Fresh, Blank, Elsewhere, Indexes};

@@ -1,8 +1,8 @@
 -- `capi::pelzurda_lines` meets its contract: the answers of the lines, and what zeroing leaves of the working space.
 -- Assumes nothing.
-use mathlib.Core.Path.{_≡_, refl, _∙_, ap}
+use mathlib.Core.Path.{_≡_, refl}
 use Prim.Native.Nat.{min}
-use lib.ListN.{length, replicate}
+use lib.ListN.{length}
 use borrow.Author.Needs.{needs}
 use Rattle.rulebook.proofs.Indexes.{fresh}
 use Rattle.capi.specs.Coded.{languageOf, prefixOf}

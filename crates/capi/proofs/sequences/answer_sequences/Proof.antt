@@ -1,8 +1,8 @@
 -- `capi::sequences::answer_sequences` meets its contract: what is written, with the answers of the texts that are left, is the whole.
 -- Assumes nothing.
-use mathlib.Core.Path.{_≡_, refl, sym, ap, _∙_}
+use mathlib.Core.Path.{_≡_, refl, ap, _∙_}
 use mathlib.Core.List.{_++_}
-use Prim.Native.Nat.{_+_, _-_, _≤_, _<_}
+use Prim.Native.Nat.{_-_, _≤_}
 use native.Mathlib.Omega.{arith}
 use lib.ListN.{length, take, drop, length-set}
 use borrow.Author.Needs.{needs}

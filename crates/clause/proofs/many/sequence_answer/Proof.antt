@@ -1,6 +1,6 @@
 -- `sequence_answer` meets its contract: the clauses are counted from the start on, and that is what the call gives.
 -- Assumes nothing.
-use mathlib.Core.Path.{_≡_, sym, subst, ap, _∙_}
+use mathlib.Core.Path.{sym, subst, ap, _∙_}
 use borrow.Author.Needs.{needs}
 use Rattle.refusal.specs.Answer.{given, andThen}
 use Rattle.clause.specs.declared.SequenceState.{SequenceState}

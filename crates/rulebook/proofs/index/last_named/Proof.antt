@@ -20,7 +20,7 @@ Inv-loop book index mark name ignore-case lead first count heads links slot₀ s
     × Indexed lead first count book index
     × (slot < 4294967296)
     × ((k : ℕ) × (k ≤ count) × (slot ≡ lastSlot lead first book (signature name) k)
-        × (lastNamed (comparing ignore-case) name lead first book k ≡ lastNamed (comparing ignore-case) name lead first book count))
+    × (lastNamed (comparing ignore-case) name lead first book k ≡ lastNamed (comparing ignore-case) name lead first book count))
 
 abbrev μ-loop : tie.MeasureT-loop
 μ-loop book index mark name ignore-case lead first count heads links slot₀ slot = slot

@@ -1,8 +1,7 @@
 -- `rulebook::repeats::first_repeat` meets its contract: the header says where the entries of the book's two kinds stand, and the index is filled
 -- for one after the other. Assumes nothing.
-use mathlib.Core.Path.{_≡_, refl, sym, ap, _∙_}
+use mathlib.Core.Path.{_≡_, sym, ap, _∙_}
 use mathlib.Core.List.{[]}
-use Prim.Native.Nat.{_≤_}
 use native.Mathlib.Omega.{arith}
 use borrow.Author.Needs.{needs}
 use Rattle.ascii.specs.Text.{foundAt}
@@ -48,9 +47,10 @@ returns-2 c =
     let n : tie.After-repeat-among2 = c .before .before in
     let t = ap foundAt (c .before .before .before .before .enum-told .given .1) in
     let e = c .before .before .before .before .before .before .before .before .before .before .before .before .read-header .ensures in
-    let d = sym (m .repeat-among .ensures .0) ∙ t in
-    (rw (directives m ∙ t, clauses n),
-    whole _ _ e _ _ d (m .repeat-among .ensures .1 .1 t) (n .repeat-among2 .ensures .1 .0) (λ q. n .repeat-among2 .ensures .1 .1 (n .repeat-among2 .ensures .0 ∙ q)) (c .before .before .before .before .before .before .before .before .before .before .before .before .before .before .before .pre .0))
+    let d = sym (m .repeat-among .ensures .0) ∙ t in (
+      rw (directives m ∙ t, clauses n),
+      whole _ _ e _ _ d (m .repeat-among .ensures .1 .1 t) (n .repeat-among2 .ensures .1 .0) (λ q. n .repeat-among2 .ensures .1 .1 (n .repeat-among2 .ensures .0 ∙ q)) (c .before .before .before .before .before .before .before .before .before .before .before .before .before .before .before .pre .0),
+    )
 
 pub first-repeat-spec : {M : Type 1} → statement M
 first-repeat-spec =

@@ -1,14 +1,14 @@
 -- `rulebook::repeats::repeat_among` meets its contract: the entries that are left repeat, after those that are done, what all of them repeat,
 -- and the index tells of those that are done. Assumes nothing.
-use mathlib.Core.Path.{_≡_, refl, sym, ap, _∙_}
-use mathlib.Core.List.{List, []}
-use Prim.Native.Nat.{ℕ, _+_, _-_, _*_, _<_, _≤_}
+use mathlib.Core.Path.{_≡_, refl, sym, _∙_}
+use mathlib.Core.List.{[]}
+use Prim.Native.Nat.{_+_, _-_, _*_, _<_, _≤_}
 use native.Mathlib.Omega.{arith}
-use lib.ListN.{length, length-set, getD}
+use lib.ListN.{length, length-set}
 use borrow.Author.Needs.{needs}
 use Rattle.rulebook.specs.Book.{Laid, entriesFrom, placeAfter}
 use Rattle.rulebook.specs.Check.{repeatFrom}
-use Rattle.rulebook.specs.Index.{nameOf, Chains, Indexed, Blank, Elsewhere}
+use Rattle.rulebook.specs.Index.{nameOf, Chains, Indexed, Elsewhere}
 use Rattle.rulebook.specs.Signature.{signature}
 use Rattle.rulebook.proofs.Laying.{laid-name, laid-next, laid-fewer, place-snoc}
 use Rattle.rulebook.proofs.Repeating.{repeat-here, repeat-later, repeat-none}
