@@ -73,9 +73,8 @@ fn spread<'a>(entries: &[&'a [u8]], lead: usize, size: usize) -> Vec<&'a [u8]> {
     entries.iter().zip(kept).filter(|(_, kept)| *kept).map(|(entry, _)| *entry).collect()
 }
 
-/// Sequences in a call that reads many, of few clauses or of many.
-const MANY: usize = 100;
-const MANY_LONG: usize = 2;
+/// Clauses in a call that reads many sequences, of which it reads two at least.
+const MANY: usize = 1_000;
 
 pub fn rows(report: &Report, folder: &str) {
     let books = [("small book", small_book()), ("typical book", typical_book(folder)), ("openmp.drb", openmp_book(folder))];
@@ -86,12 +85,12 @@ pub fn rows(report: &Report, folder: &str) {
         }
         row_from_names(report, &format!("sequence 4000, registry built, {title}"), book, &clauses(&SHORT, 0, 4_000, ""), 4_000);
     }
-    report.heading("the same by the sequence, many a call under one check of the book, registry built once", "Rust ns");
+    report.heading("the same by the sequence, 1,000 clauses a call or two sequences, under one check of the book, registry built once", "Rust ns");
     for (title, book) in &books {
-        for (count, many) in [(1, MANY), (10, MANY), (500, MANY_LONG)] {
-            many_row(report, &format!("sequences {count}, {title}"), book, |turn| clauses(&TYPICAL, turn, count, " "), count, many);
+        for count in [1, 10, 500] {
+            many_row(report, &format!("sequences {count}, {title}"), book, |turn| clauses(&TYPICAL, turn, count, " "), count);
         }
-        many_row(report, &format!("sequences 4000, {title}"), book, |_| clauses(&SHORT, 0, 4_000, ""), 4_000, MANY_LONG);
+        many_row(report, &format!("sequences 4000, {title}"), book, |_| clauses(&SHORT, 0, 4_000, ""), 4_000);
     }
     report.heading("one clause sequence a call, book checked in it, against parse_sequence of a registry built before", "Rust ns");
     for (title, book) in &books {
@@ -180,11 +179,12 @@ fn row_from_names(report: &Report, name: &str, book: &[u8], text: &str, count: u
     );
 }
 
-fn many_row(report: &Report, name: &str, book: &[u8], text: impl Fn(usize) -> String, count: usize, many: usize) {
+fn many_row(report: &Report, name: &str, book: &[u8], text: impl Fn(usize) -> String, count: usize) {
     if !report.wants(name) {
         return;
     }
     let mut shelf = Shelf::default();
+    let many = (MANY / count).max(2);
     let texts: Vec<String> = (0..many).map(text).collect();
     for text in &texts {
         agreed(name, &mut shelf, book, text, count);

@@ -58,3 +58,11 @@ module _ (bs : List ℕ) (at left : ℕ) (h : at < length bs) (g : 0 < left) whe
   pub word-on : (c : ℕ) → isWord (getD bs at 0) ≡ true
       → badFrom (ClauseName left c) at (drop at bs) ≡ badFrom (ClauseName (left - 1) c) (at + 1) (drop (at + 1) bs)
   word-on c t = bad-later bs _ at _ h (word-more left c (getD bs at 0) (omega arith) ∙ rw t)
+
+-- the last byte of a name
+module _ (bs : List ℕ) (at : ℕ) (h : at < length bs) where
+  pub name-ends : (w : Bool) (d c : ℕ) → isWord (getD bs at 0) ≡ true → badFrom (DirectiveName 0 w d c) at (drop at bs) ≡ badFrom (directivesLeft d c) (at + 1) (drop (at + 1) bs)
+  name-ends w d c t = bad-later bs _ at _ h (rw t)
+
+  pub word-ends : (c : ℕ) → isWord (getD bs at 0) ≡ true → badFrom (ClauseName 0 c) at (drop at bs) ≡ badFrom (clausesLeft c) (at + 1) (drop (at + 1) bs)
+  word-ends c t = bad-later bs _ at _ h (rw t)

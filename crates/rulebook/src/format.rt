@@ -165,8 +165,48 @@ fn ended(e: Expect, at: usize) -> Found
     }
 }
 
-// Names are most of a book, so their bytes are read in loops of their own, each up to the name's last byte or one that may not stand there.
+// Names are most of a book, so their bytes are read in loops of their own, each up to the name's end or a byte that may not stand there.
 // Of a book that is cut in the name nothing is read here.
+
+// Past the last byte of a directive's name, if it is of a word.
+fn directive_end(book: &[u8], at: usize, after_word: bool, d: usize, c: usize) -> Waiting
+    requires { ⌜ at ≤ length (now book) ⌝ }
+    ensures { λ r. ⌜ (at ≤ r .at) × (r .at ≤ length (now (book .entry))) ⌝ }
+    ensures { λ r. ⌜ badFrom (r .expect) (r .at) (drop (r .at) (now (book .entry))) ≡ badFrom (Expect.DirectiveName 0 «after_word» d c) at (drop at (now (book .entry))) ⌝ }
+{
+    if at < book.len() {
+        if is_word(book[at]) {
+            return Waiting {
+                at: at + 1,
+                expect: directives_left(d, c),
+            };
+        }
+    }
+    Waiting {
+        at,
+        expect: Expect::DirectiveName(0, after_word, d, c),
+    }
+}
+
+// Past the last byte of a clause's name, if it is of a word.
+fn clause_end(book: &[u8], at: usize, c: usize) -> Waiting
+    requires { ⌜ at ≤ length (now book) ⌝ }
+    ensures { λ r. ⌜ (at ≤ r .at) × (r .at ≤ length (now (book .entry))) ⌝ }
+    ensures { λ r. ⌜ badFrom (r .expect) (r .at) (drop (r .at) (now (book .entry))) ≡ badFrom (Expect.ClauseName 0 c) at (drop at (now (book .entry))) ⌝ }
+{
+    if at < book.len() {
+        if is_word(book[at]) {
+            return Waiting {
+                at: at + 1,
+                expect: clauses_left(c),
+            };
+        }
+    }
+    Waiting {
+        at,
+        expect: Expect::ClauseName(0, c),
+    }
+}
 
 fn directive_run(book: &[u8], at: usize, n: usize, after_word: bool, d: usize, c: usize) -> Waiting
     requires { ⌜ at ≤ length (now book) ⌝ }
@@ -195,10 +235,7 @@ fn directive_run(book: &[u8], at: usize, n: usize, after_word: bool, d: usize, c
         word = is;
         place += 1;
     }
-    Waiting {
-        at: place,
-        expect: Expect::DirectiveName(left, word, d, c),
-    }
+    directive_end(book, place, word, d, c)
 }
 
 fn clause_run(book: &[u8], at: usize, n: usize, c: usize) -> Waiting
@@ -224,13 +261,10 @@ fn clause_run(book: &[u8], at: usize, n: usize, c: usize) -> Waiting
         left -= 1;
         place += 1;
     }
-    Waiting {
-        at: place,
-        expect: Expect::ClauseName(left, c),
-    }
+    clause_end(book, place, c)
 }
 
-// Goes on to the last byte of a name, if one is being read.
+// Goes on to the end of a name, if one is being read.
 fn name_run(book: &[u8], at: usize, expect: Expect) -> Waiting
     requires { ⌜ at ≤ length (now book) ⌝ }
     ensures { λ r. ⌜ (at ≤ r .at) × (r .at ≤ length (now (book .entry))) ⌝ }

@@ -38,4 +38,7 @@ clause-run-spec =
     let a = c .before .before .before .before .before .before .before .args in
     let t = sym (c .before .is-word .ensures) ∙ not-false (c .before .is-word .result) (c .if2 .left) in
     (omega arith, omega arith, sym (word-on (a .book .now) (l .place) (l .left) (omega arith) (omega arith) _ t) ∙ l .inv .2))
-    (λ c. let l = c .before .loop in ((l .inv .0, omega arith), l .inv .2)))
+    (λ c κs. omega arith)
+    (λ c. let l = c .before .before .loop in
+    let e : l .left ≡ 0 = omega (arith, c .before .loop-test .left) in
+    ((omega (arith, c .clause-end .ensures .0 .0, l .inv .0), c .clause-end .ensures .0 .1), c .clause-end .ensures .1 ∙ rw e at (l .inv .2))))

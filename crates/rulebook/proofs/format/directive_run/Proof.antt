@@ -43,4 +43,7 @@ directive-run-spec =
     let w = c .before .is-word .result in
     let t = not-false (w || eqb (getD (a .book .now) (l .place) 0) 32 && l .word) (c .if2 .left) in
     (omega arith, omega arith, sym (name-on (a .book .now) (l .place) (l .left) (omega arith) (omega arith) w (l .word) _ _ (c .before .is-word .ensures) t) ∙ l .inv .2))
-    (λ c. let l = c .before .loop in ((l .inv .0, omega arith), l .inv .2)))
+    (λ c κs. omega arith)
+    (λ c. let l = c .before .before .loop in
+    let e : l .left ≡ 0 = omega (arith, c .before .loop-test .left) in
+    ((omega (arith, c .directive-end .ensures .0 .0, l .inv .0), c .directive-end .ensures .0 .1), c .directive-end .ensures .1 ∙ rw e at (l .inv .2))))
