@@ -47,5 +47,14 @@ int main(void) {
     uint64_t answers[2][5];
     uint64_t answered = pelzurda_lines(PELZURDA_C, PELZURDA_OMP, book, sizeof book - 1, (const uint8_t *)lines, sizeof lines - 1, ends, 2, text, 64, map, 65, 8, answers, 2);
     printf("%u lines: entry %u, refusal %u at %u\n", (unsigned)answered, (unsigned)answers[0][0], (unsigned)pelzurda_number(answers[1][0]), (unsigned)pelzurda_place(answers[1][0]));
+    /* and of two texts of clauses */
+    const char texts[] = "nowaitprivate(i) nowait";
+    const size_t text_ends[2] = {6, sizeof texts - 1};
+    uint64_t counts[2][2];
+    uint64_t counted = pelzurda_sequences(book, sizeof book - 1, (const uint8_t *)texts, sizeof texts - 1, text_ends, 2, 8, counts, 2);
+    printf("%u texts: %u and %u clauses, rests %u and %u\n", (unsigned)counted, (unsigned)counts[0][0], (unsigned)counts[1][0], (unsigned)counts[0][1], (unsigned)counts[1][1]);
+    if (counted != 2 || counts[0][0] != 1 || counts[0][1] != 6 || counts[1][0] != 2 || counts[1][1] != 17) {
+        return 1;
+    }
     return reading[2] == 2 && pelzurda_number(count) == PELZURDA_NO_CLAUSE && records[0].name_end == 0 && answers[0][0] == 0 && answers[0][3] == 1 && pelzurda_number(answers[1][0]) == PELZURDA_NO_DIRECTIVE ? 0 : 1;
 }

@@ -14,7 +14,7 @@ pub fn rows(report: &Report, folder: &str) {
     row(report, "book full, names of 64 differ in the middle", &book(255, 255, |i| format!("{}{i:03}{}", "x".repeat(30), "x".repeat(31))));
     let openmp = openmp_book(folder);
     row(report, "book openmp.drb", &openmp);
-    report.heading("500 clauses with a book's last name beside its first; as bytes count the entries passed over", "first ns");
+    report.heading("500 clauses with a book's last name beside its first; as bytes count the entries between", "first ns");
     lookup(report, "lookup typical, 60 names", &book(40, 60, typical_name));
     lookup(report, "lookup full, 255 names", &book(255, 255, typical_name));
     lookup(report, "lookup full, names of one length", &book(255, 255, |i| format!("directive_name_{i:03}")));

@@ -92,7 +92,7 @@ pub fn rows(report: &Report, folder: &str) {
         }
         many_row(report, &format!("sequences 4000, {title}"), book, |_| clauses(&SHORT, 0, 4_000, ""), 4_000);
     }
-    report.heading("one clause sequence a call, book checked in it, against parse_sequence of a registry built before", "Rust ns");
+    report.heading("what one check costs: a clause sequence a call, book checked in it, beside parse_sequence of a registry built before", "Rust ns");
     for (title, book) in &books {
         for count in [1, 10, 500, 1_000] {
             row(report, &format!("sequence {count} clauses, {title}"), book, &clauses(&TYPICAL, 0, count, " "), count);
