@@ -8,10 +8,10 @@ use Prim.Native.Nat.{ℕ, zero, suc, _+_, _-_, _<_, _≤_}
 use native.Mathlib.Nat.{add-zero}
 use native.Mathlib.Omega.{arith}
 use lib.ListN.{length, drop, getD}
-use lib.Dec.{eqb, ltb, leb}
-use borrow.Author.Tests.{ltb-true, ltb-false, leb-true}
+use lib.Dec.{eqb, ltb}
+use borrow.Author.Tests.{ltb-true, ltb-false}
 use Rattle.ascii.specs.Ascii.{isWord}
-use Rattle.ascii.proofs.Flags.{by-cases, and-left}
+use Rattle.ascii.proofs.Flags.{by-cases}
 use Rattle.refusal.specs.declared.Refusal.{Refusal}
 use Rattle.refusal.specs.Answer.{Answer, given, refusedBy, unlessFault}
 use Rattle.rulebook.specs.declared.Expect.{Expect}
@@ -21,7 +21,7 @@ use Rattle.rulebook.specs.declared.Step.the-variants.{Next, Bad}
 use Rattle.rulebook.specs.Format.{ruleFor, isKnown, isHeader, isLength, clausesLeft, directivesLeft, whenGood, stepped, endedAt, badFrom}
 use Rattle.rulebook.specs.Book.{nameAt, placeAfter, Laid, LaidIn, directivesOf, clausesOf}
 use Rattle.rulebook.specs.Check.{HasForm, orElse, bookFault, bookCall}
-use Rattle.rulebook.proofs.Steps.{bad-here, bad-later, bad-end}
+use Rattle.rulebook.proofs.Steps.{at-least, bad-here, bad-later, bad-end}
 
 pub never : {X : Type 0} (p : ℕ) → _≡_ {A = Option ℕ} (some p) none → X
 never p e = let z : _≡_ {A = ℕ} 0 1 = cc in absurd (omega arith)
@@ -74,9 +74,6 @@ module _ (bs : List ℕ) where
       word-fits n c (at + 1) to (omega arith) (rw (k .1) at (g .fine))
 
   -- entries
-  at-least : (b : ℕ) → isLength b ≡ true → 1 ≤ b
-  at-least b h = leb-true 1 b (and-left (leb 1 b) (leb b 64) h)
-
   directive-fits : (d c at : ℕ) → badFrom (DirectiveLength d c) at (drop at bs) ≡ none
       → (1 ≤ getD bs (at + 0) 0) × (nameAt 0 at bs .end ≤ length bs) × (badFrom (directivesLeft d c) (nameAt 0 at bs .end) (drop (nameAt 0 at bs .end) bs) ≡ none)
   directive-fits d c at h =

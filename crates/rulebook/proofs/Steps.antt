@@ -1,20 +1,25 @@
 -- Laws of a book's form: what a count of entries or of bytes waits for, and the first bad byte at a place, in the terms of a loop.
 -- Assumes nothing.
-use mathlib.Core.Path.{_≡_, refl, _∙_}
+use mathlib.Core.Path.{_≡_, refl}
 use mathlib.Core.Bool.{Bool, true, _||_, _&&_}
 use mathlib.Core.Option.{some}
 use mathlib.Core.List.{List}
 use Prim.Native.Nat.{ℕ, zero, suc, _+_, _-_, _<_, _≤_}
 use native.Mathlib.Numerals.{add-one, unary-clauses}
-use native.Mathlib.Omega.{arith}
 use lib.ListN.{length, drop, getD, drop-of-length-le}
 use lib.Seq.{drop-cons}
-use lib.Dec.{eqb}
+use lib.Dec.{eqb, leb}
+use borrow.Author.Tests.{leb-true}
 use Rattle.ascii.specs.Ascii.{isWord}
+use Rattle.ascii.proofs.Flags.{and-left}
 use Rattle.rulebook.specs.declared.Expect.{Expect}
 use Rattle.rulebook.specs.declared.Expect.the-variants.{DirectiveLength, DirectiveName, Rule, ClauseName}
 use Rattle.rulebook.specs.declared.Step.the-variants.{Next, Bad}
-use Rattle.rulebook.specs.Format.{clausesLeft, directivesLeft, whenGood, nameStep, wordStep, stepped, endedAt, badFrom}
+use Rattle.rulebook.specs.Format.{isLength, clausesLeft, directivesLeft, whenGood, nameStep, wordStep, stepped, endedAt, badFrom}
+
+-- a name has a byte at least
+pub at-least : (b : ℕ) → isLength b ≡ true → 1 ≤ b
+at-least b h = leb-true 1 b (and-left (leb 1 b) (leb b 64) h)
 
 -- a count that is not 0
 pub clauses-more : (c : ℕ) → (c ≡ 0 → ⊥) → clausesLeft c ≡ Rule (c - 1)
@@ -48,16 +53,6 @@ module _ (bs : List ℕ) (e : Expect) (at : ℕ) where
   pub bad-end : length bs ≤ at → badFrom e at (drop at bs) ≡ endedAt e at
   unfolding badFrom
   bad-end h = rw (drop-of-length-le bs h)
-
--- a byte that may stand in a name before its last one
-module _ (bs : List ℕ) (at left : ℕ) (h : at < length bs) (g : 0 < left) where
-  pub name-on : (word w : Bool) (d c : ℕ) → word ≡ isWord (getD bs at 0) → (word || eqb (getD bs at 0) 32 && w) ≡ true
-      → badFrom (DirectiveName left w d c) at (drop at bs) ≡ badFrom (DirectiveName (left - 1) word d c) (at + 1) (drop (at + 1) bs)
-  name-on word w d c q t = bad-later bs _ at _ h (name-more left w d c (getD bs at 0) (omega arith) ∙ rw (q, rw q at t))
-
-  pub word-on : (c : ℕ) → isWord (getD bs at 0) ≡ true
-      → badFrom (ClauseName left c) at (drop at bs) ≡ badFrom (ClauseName (left - 1) c) (at + 1) (drop (at + 1) bs)
-  word-on c t = bad-later bs _ at _ h (word-more left c (getD bs at 0) (omega arith) ∙ rw t)
 
 -- the last byte of a name
 module _ (bs : List ℕ) (at : ℕ) (h : at < length bs) where

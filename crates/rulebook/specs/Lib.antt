@@ -1,4 +1,5 @@
 pub mod Format
+pub mod Standing
 pub mod Book
 pub mod Check
 pub mod Lookup

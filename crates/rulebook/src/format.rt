@@ -3,12 +3,11 @@ use crate::ClauseRule;
 use crate::Expect;
 use crate::RuleByte;
 use crate::Step;
-use crate::Waiting;
+use crate::passing::past_entries;
 use ascii::Found;
 use ascii::class::is_word;
 ghost use mathlib.Core.Path.{_≡_};
-ghost use Prim.Native.Nat.{_-_, _≤_};
-ghost use lib.ListN.{length, drop};
+ghost use Prim.Native.Nat.{_-_};
 ghost use Rattle.ascii.specs.Text.{foundAt};
 ghost use Rattle.rulebook.specs.Format.{ruleFor, isKnown, isHeader, isLength, clausesLeft, directivesLeft, whenGood, headerStep, nameStep, wordStep, stepped, endedAt, badFrom};
 
@@ -31,7 +30,7 @@ pub fn rule_for(b: u8) -> RuleByte
     }
 }
 
-fn is_rule(b: u8) -> bool
+pub fn is_rule(b: u8) -> bool
     ensures { λ r. ⌜ r ≡ isKnown (ruleFor b) ⌝ }
 {
     match rule_for(b) {
@@ -41,7 +40,7 @@ fn is_rule(b: u8) -> bool
 }
 
 // Whether a byte may stand at a place of the header.
-fn is_header(i: usize, b: u8) -> bool
+pub fn is_header(i: usize, b: u8) -> bool
     ensures { λ r. ⌜ r ≡ isHeader i b ⌝ }
 {
     let mark = b"DRB";
@@ -57,13 +56,13 @@ fn is_header(i: usize, b: u8) -> bool
     }
 }
 
-fn is_length(b: u8) -> bool
+pub fn is_length(b: u8) -> bool
     ensures { λ r. ⌜ r ≡ isLength b ⌝ }
 {
     (1 <= b) & (b <= 64)
 }
 
-fn clauses_left(c: usize) -> Expect
+pub fn clauses_left(c: usize) -> Expect
     ensures { λ r. ⌜ r ≡ clausesLeft c ⌝ }
 {
     if c == 0 {
@@ -72,7 +71,7 @@ fn clauses_left(c: usize) -> Expect
     Expect::Rule(c - 1)
 }
 
-fn directives_left(d: usize, c: usize) -> Expect
+pub fn directives_left(d: usize, c: usize) -> Expect
     ensures { λ r. ⌜ r ≡ directivesLeft d c ⌝ }
 {
     if d == 0 {
@@ -165,130 +164,18 @@ fn ended(e: Expect, at: usize) -> Found
     }
 }
 
-// Names are most of a book, so their bytes are read in loops of their own, each up to the name's end or a byte that may not stand there.
-// Of a book that is cut in the name nothing is read here.
-
-// Past the last byte of a directive's name, if it is of a word.
-fn directive_end(book: &[u8], at: usize, after_word: bool, d: usize, c: usize) -> Waiting
-    requires { ⌜ at ≤ length (now book) ⌝ }
-    ensures { λ r. ⌜ (at ≤ r .at) × (r .at ≤ length (now (book .entry))) ⌝ }
-    ensures { λ r. ⌜ badFrom (r .expect) (r .at) (drop (r .at) (now (book .entry))) ≡ badFrom (Expect.DirectiveName 0 «after_word» d c) at (drop at (now (book .entry))) ⌝ }
-{
-    if at < book.len() {
-        if is_word(book[at]) {
-            return Waiting {
-                at: at + 1,
-                expect: directives_left(d, c),
-            };
-        }
-    }
-    Waiting {
-        at,
-        expect: Expect::DirectiveName(0, after_word, d, c),
-    }
-}
-
-// Past the last byte of a clause's name, if it is of a word.
-fn clause_end(book: &[u8], at: usize, c: usize) -> Waiting
-    requires { ⌜ at ≤ length (now book) ⌝ }
-    ensures { λ r. ⌜ (at ≤ r .at) × (r .at ≤ length (now (book .entry))) ⌝ }
-    ensures { λ r. ⌜ badFrom (r .expect) (r .at) (drop (r .at) (now (book .entry))) ≡ badFrom (Expect.ClauseName 0 c) at (drop at (now (book .entry))) ⌝ }
-{
-    if at < book.len() {
-        if is_word(book[at]) {
-            return Waiting {
-                at: at + 1,
-                expect: clauses_left(c),
-            };
-        }
-    }
-    Waiting {
-        at,
-        expect: Expect::ClauseName(0, c),
-    }
-}
-
-fn directive_run(book: &[u8], at: usize, n: usize, after_word: bool, d: usize, c: usize) -> Waiting
-    requires { ⌜ at ≤ length (now book) ⌝ }
-    ensures { λ r. ⌜ (at ≤ r .at) × (r .at ≤ length (now (book .entry))) ⌝ }
-    ensures { λ r. ⌜ badFrom (r .expect) (r .at) (drop (r .at) (now (book .entry))) ≡ badFrom (Expect.DirectiveName n «after_word» d c) at (drop at (now (book .entry))) ⌝ }
-{
-    let mut left = n;
-    let mut word = after_word;
-    let mut place = at;
-    if book.len() - at < n {
-        return Waiting {
-            at: place,
-            expect: Expect::DirectiveName(left, word, d, c),
-        };
-    }
-    while 0 < left {
-        let b = book[place];
-        let is = is_word(b);
-        if !(is | (b == 32) & word) {
-            return Waiting {
-                at: place,
-                expect: Expect::DirectiveName(left, word, d, c),
-            };
-        }
-        left -= 1;
-        word = is;
-        place += 1;
-    }
-    directive_end(book, place, word, d, c)
-}
-
-fn clause_run(book: &[u8], at: usize, n: usize, c: usize) -> Waiting
-    requires { ⌜ at ≤ length (now book) ⌝ }
-    ensures { λ r. ⌜ (at ≤ r .at) × (r .at ≤ length (now (book .entry))) ⌝ }
-    ensures { λ r. ⌜ badFrom (r .expect) (r .at) (drop (r .at) (now (book .entry))) ≡ badFrom (Expect.ClauseName n c) at (drop at (now (book .entry))) ⌝ }
-{
-    let mut left = n;
-    let mut place = at;
-    if book.len() - at < n {
-        return Waiting {
-            at: place,
-            expect: Expect::ClauseName(left, c),
-        };
-    }
-    while 0 < left {
-        if !is_word(book[place]) {
-            return Waiting {
-                at: place,
-                expect: Expect::ClauseName(left, c),
-            };
-        }
-        left -= 1;
-        place += 1;
-    }
-    clause_end(book, place, c)
-}
-
-// Goes on to the end of a name, if one is being read.
-fn name_run(book: &[u8], at: usize, expect: Expect) -> Waiting
-    requires { ⌜ at ≤ length (now book) ⌝ }
-    ensures { λ r. ⌜ (at ≤ r .at) × (r .at ≤ length (now (book .entry))) ⌝ }
-    ensures { λ r. ⌜ badFrom (r .expect) (r .at) (drop (r .at) (now (book .entry))) ≡ badFrom expect at (drop at (now (book .entry))) ⌝ }
-{
-    match expect {
-        Expect::DirectiveName(n, after_word, d, c) => directive_run(book, at, n, after_word, d, c),
-        Expect::ClauseName(n, c) => clause_run(book, at, n, c),
-        _ => Waiting { at, expect },
-    }
-}
-
-// The first bad byte, or the end of a book that is cut.
+// The first bad byte, or the end of a book that is cut. Entries whose form is right are passed at once; the bytes of one whose form is not are read one by one.
 pub fn first_bad(book: &[u8]) -> Found
     ensures { λ r. ⌜ foundAt r ≡ badFrom (Expect.HeaderByte 0) 0 (now (book .entry)) ⌝ }
 {
-    let mut expect = Expect::HeaderByte(0);
-    let mut at = 0;
+    let waiting = past_entries(book);
+    let mut expect = waiting.expect;
+    let mut at = waiting.at;
     while at < book.len() {
         match step(expect, book[at]) {
             Step::Next(next) => {
-                let run = name_run(book, at + 1, next);
-                expect = run.expect;
-                at = run.at;
+                expect = next;
+                at += 1;
             }
             Step::Bad => {
                 return Found::At(at);

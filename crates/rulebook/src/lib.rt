@@ -2,6 +2,7 @@
 mod format;
 pub mod index;
 pub mod lookup;
+mod passing;
 mod repeats;
 
 use ascii::Found;

@@ -1,6 +1,6 @@
 -- `rulebook::format::first_bad` meets its contract: what is left of the book from the place on has the fault of the whole.
 -- Assumes nothing.
-use mathlib.Core.Path.{_≡_, refl, sym, _∙_}
+use mathlib.Core.Path.{_≡_, sym, _∙_}
 use Prim.Native.Nat.{_-_, _≤_}
 use native.Mathlib.Omega.{arith}
 use lib.ListN.{length, drop}
@@ -23,17 +23,17 @@ first-bad-spec =
     (tie.spec
     Inv-loop
     μ-loop
-    (λ c. (omega arith, refl))
+    (λ c κs. search needs)
+    (λ c. c .past-entries .ensures)
     (λ c. omega arith)
     (λ c κs. search needs)
     (λ c. search needs)
     (λ c. omega arith)
-    (λ c κs. omega arith)
-    (λ c. omega (arith, c .name-run .ensures .0))
-    (λ c. let l : tie.In-loop Inv-loop μ-loop = c .before .before .before .before .before .before in
-    let e = sym (c .before .before .before .before .step .ensures) ∙ c .before .before .next .given .1 in
-    let later = bad-later (l .before .before .before .args .book .now) (l .before .loop .expect) (l .before .loop .at) _ (l .loop-test .taken) e in
-    (c .name-run .ensures .0 .1, c .name-run .ensures .1 ∙ sym later ∙ l .before .loop .inv .1))
+    (λ c. omega arith)
+    (λ c. let l : tie.In-loop Inv-loop μ-loop = c .before .before .before .before .before in
+    let e = sym (c .before .before .before .step .ensures) ∙ c .before .next .given .1 in
+    let later = bad-later (l .before .before .before .before .args .book .now) (l .before .loop .expect) (l .before .loop .at) _ (l .loop-test .taken) e in
+    (omega arith, sym later ∙ l .before .loop .inv .1))
     (λ c. search needs)
     (λ c. let l : tie.In-loop Inv-loop μ-loop = c .before .before .before .before in
     let e = sym (c .before .before .step .ensures) ∙ c .enum-told .given .1 in
