@@ -6,9 +6,12 @@ use mathlib.Core.List.{List, []}
 use Prim.Native.Nat.{ℕ, zero, suc, _+_, _*_}
 use native.Mathlib.Omega.{arith}
 use lib.ListN.{getD, replicate, length-replicate}
+use Rattle.refusal.specs.Answer.{given, refused}
 use Rattle.rulebook.specs.declared.Header.{Header}
+use Rattle.rulebook.specs.declared.Expect.the-variants.{HeaderByte}
+use Rattle.rulebook.specs.Format.{badFrom}
 use Rattle.rulebook.specs.Book.{entriesIn, clausesOf, headerOf, bookOf}
-use Rattle.rulebook.specs.Check.{HasForm, repeatFrom, bookFault}
+use Rattle.rulebook.specs.Check.{HasForm, repeatFrom, orElse, bookFault, bookCall}
 use Rattle.rulebook.specs.Index.{Indexed, Fresh, Blank, Elsewhere, Indexes}
 use Rattle.rulebook.proofs.Finding.{book-directives, book-clauses}
 use Rattle.rulebook.proofs.Indexing.{some-none}
@@ -45,7 +48,24 @@ module _ (bs : List ℕ) where
   pub faulty : (index : List ℕ) (p : ℕ) → bookFault bs ≡ some p → Indexes bs index
   faulty index p e = record { directives = λ h. absurd (some-none (sym e ∙ h)); clauses = λ h. absurd (some-none (sym e ∙ h)) }
 
-  -- the book's fault, once its form is right: a directive that repeats another, or else a clause
+  -- what the call gives for a fault, or for none
+  pub call-refused : (p : ℕ) → bookFault bs ≡ some p → refused 4 p ≡ bookCall bs
+  unfolding bookCall
+  call-refused p e = rw e
+
+  pub call-given : bookFault bs ≡ none → given tt ≡ bookCall bs
+  unfolding bookCall
+  call-given e = rw e
+
+  -- the book's fault: in its form, or else a directive that repeats another, or else a clause
+  pub fault-form : (p : ℕ) → badFrom (HeaderByte 0) 0 bs ≡ some p → bookFault bs ≡ some p
+  unfolding bookFault
+  fault-form p e = rw e
+
+  pub fault-repeat : HasForm bs → bookFault bs ≡ orElse (repeatFrom [] (bookOf bs .directives)) (repeatFrom [] (bookOf bs .clauses))
+  unfolding bookFault
+  fault-repeat f = rw f
+
   pub fault-first : (p : ℕ) → HasForm bs → repeatFrom [] (bookOf bs .directives) ≡ some p → bookFault bs ≡ some p
   unfolding bookFault
   fault-first p f d = rw (f, d)

@@ -9,8 +9,8 @@ use ascii::Found;
 use refusal::Reason;
 use refusal::Refusal;
 ghost use mathlib.Core.Path.{_≡_};
-ghost use Rattle.ascii.specs.Text.{foundAt};
-ghost use Rattle.rulebook.specs.Check.{bookFault, bookCall, bookGives, Stands};
+ghost use Rattle.refusal.specs.Answer.{refused as refusedAt};
+ghost use Rattle.rulebook.specs.Check.{bookCall, bookGives, Stands};
 ghost use Rattle.rulebook.specs.Index.{Fresh, Indexes};
 
 // What a clause may look like.
@@ -103,30 +103,39 @@ pub struct CheckedBook {
     pub header: Header,
 }
 
-// The first fault of a book: a bad byte, its end if it is cut, else a repeat. In a book without one the index is made.
-fn book_fault(book: &[u8], index: &mut [u32]) -> Found
+fn refused(place: usize) -> BookAnswer
+    ensures { λ r. ⌜ bookGives r ≡ refusedAt 4 place ⌝ }
+{
+    BookAnswer::Refused(Refusal {
+        reason: Reason::WrongBook,
+        place,
+    })
+}
+
+// The check: a bad byte, the book's end if it is cut, else a repeat. The header is read once, and in a book without a fault the index is made.
+pub fn checked(book: &[u8], index: &mut [u32]) -> CheckedBook
     requires { ⌜ Fresh (now index) ⌝ }
-    ensures { λ r. ⌜ foundAt r ≡ bookFault (now (book .entry)) ⌝ }
+    ensures { λ r. ⌜ Stands (now (book .entry)) r ⌝ }
     ensures { λ r. ⌜ Indexes (now (book .entry)) (now (index .exit)) ⌝ }
 {
     match format::first_bad(book) {
-        Found::At(place) => Found::At(place),
-        Found::Nothing => repeats::first_repeat(book, index),
-    }
-}
-
-// Whether a book is valid, and its index.
-fn judge(book: &[u8], index: &mut [u32]) -> BookAnswer
-    requires { ⌜ Fresh (now index) ⌝ }
-    ensures { λ r. ⌜ bookGives r ≡ bookCall (now (book .entry)) ⌝ }
-    ensures { λ r. ⌜ Indexes (now (book .entry)) (now (index .exit)) ⌝ }
-{
-    match book_fault(book, index) {
-        Found::At(place) => BookAnswer::Refused(Refusal {
-            reason: Reason::WrongBook,
-            place,
-        }),
-        Found::Nothing => BookAnswer::Valid,
+        Found::At(place) => CheckedBook {
+            verdict: refused(place),
+            header: lookup::no_header(),
+        },
+        Found::Nothing => {
+            let header = lookup::read_header(book);
+            match repeats::first_repeat(book, header, index) {
+                Found::At(place) => CheckedBook {
+                    verdict: refused(place),
+                    header,
+                },
+                Found::Nothing => CheckedBook {
+                    verdict: BookAnswer::Valid,
+                    header,
+                },
+            }
+        }
     }
 }
 
@@ -135,16 +144,6 @@ pub fn check_book(book: &[u8]) -> BookAnswer
     ensures { λ r. ⌜ bookGives r ≡ bookCall (now (book .entry)) ⌝ }
 {
     let mut index = [0u32; 1024];
-    judge(book, &mut index)
-}
-
-// The check, the header read once, and the index.
-pub fn checked(book: &[u8], index: &mut [u32]) -> CheckedBook
-    requires { ⌜ Fresh (now index) ⌝ }
-    ensures { λ r. ⌜ Stands (now (book .entry)) r ⌝ }
-    ensures { λ r. ⌜ Indexes (now (book .entry)) (now (index .exit)) ⌝ }
-{
-    let verdict = judge(book, index);
-    let header = lookup::header_under(book, verdict);
-    CheckedBook { verdict, header }
+    let checked = checked(book, &mut index);
+    checked.verdict
 }

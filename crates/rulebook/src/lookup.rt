@@ -1,5 +1,4 @@
 // Reading a book whose form is right: its header, its entries, and names looked up among them.
-use crate::BookAnswer;
 use crate::ClauseEntry;
 use crate::ClauseRule;
 use crate::Entries;
@@ -12,14 +11,13 @@ use crate::index::look_up;
 use ascii::Range;
 use ascii::class::fold;
 ghost use mathlib.Core.Path.{_≡_};
-ghost use mathlib.Core.Option.{none};
 ghost use Prim.Native.Nat.{_-_, _≤_};
 ghost use lib.ListN.{length, take, drop};
 ghost use lib.Dec.{eqb};
 ghost use Rattle.ascii.specs.Text.{sameBy, comparing};
 ghost use Rattle.rulebook.specs.Format.{ruleFor};
 ghost use Rattle.rulebook.specs.Book.{ruleSaid, nameAt, placeAfter, Laid, LaidIn, headerOf, bookOf, noHeader};
-ghost use Rattle.rulebook.specs.Check.{HasForm, bookFault, bookCall, bookGives};
+ghost use Rattle.rulebook.specs.Check.{HasForm};
 ghost use Rattle.rulebook.specs.Lookup.{clauseEntry};
 ghost use Rattle.rulebook.specs.Index.{Looked};
 
@@ -142,17 +140,6 @@ pub fn no_header() -> Header
         default_rule: ClauseRule::Bare,
         directives: none,
         clauses: none,
-    }
-}
-
-// The header of a book that its verdict finds valid; for another it says nothing.
-pub fn header_under(book: &[u8], verdict: BookAnswer) -> Header
-    requires { ⌜ bookGives verdict ≡ bookCall (now book) ⌝ }
-    ensures { λ r. ⌜ (bookFault (now (book .entry)) ≡ none → r ≡ headerOf (now (book .entry))) ⌝ }
-{
-    match verdict {
-        BookAnswer::Valid => read_header(book),
-        BookAnswer::Refused(_) => no_header(),
     }
 }
 

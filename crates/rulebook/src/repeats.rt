@@ -1,10 +1,10 @@
 // Names that repeat earlier ones, found by the index that is made on the way.
 use crate::Entries;
 use crate::EntryFound;
+use crate::Header;
 use crate::index::last_named;
 use crate::index::signature;
 use crate::lookup::name_at;
-use crate::lookup::read_header;
 use ascii::Found;
 ghost use mathlib.Core.Path.{_≡_};
 ghost use mathlib.Core.Option.{none};
@@ -12,7 +12,7 @@ ghost use mathlib.Core.List.{[]};
 ghost use Prim.Native.Nat.{_<_, _≤_};
 ghost use Rattle.ascii.specs.Ascii.{fold};
 ghost use Rattle.ascii.specs.Text.{foundAt};
-ghost use Rattle.rulebook.specs.Book.{entriesIn, LaidIn, bookOf};
+ghost use Rattle.rulebook.specs.Book.{entriesIn, LaidIn, headerOf, bookOf};
 ghost use Rattle.rulebook.specs.Check.{isNamed, repeatFrom, orElse, HasForm};
 ghost use Rattle.rulebook.specs.Signature.{signature as signatureOf};
 ghost use Rattle.rulebook.specs.Index.{Indexed, Fresh, Blank, Elsewhere, Indexes};
@@ -68,13 +68,13 @@ fn repeat_among(book: &[u8], entries: Entries, index: &mut [u32]) -> Found
 }
 
 // The first repeat of a book whose form is right: among the directives, else among the clauses. Without one the index is whole.
-pub fn first_repeat(book: &[u8], index: &mut [u32]) -> Found
+pub fn first_repeat(book: &[u8], header: Header, index: &mut [u32]) -> Found
     requires { ⌜ HasForm (now book) ⌝ }
+    requires { ⌜ header ≡ headerOf (now book) ⌝ }
     requires { ⌜ Fresh (now index) ⌝ }
     ensures { λ r. ⌜ foundAt r ≡ orElse (repeatFrom [] (bookOf (now (book .entry)) .directives)) (repeatFrom [] (bookOf (now (book .entry)) .clauses)) ⌝ }
     ensures { λ r. ⌜ Indexes (now (book .entry)) (now (index .exit)) ⌝ }
 {
-    let header = read_header(book);
     let directives = header.directives;
     let clauses = header.clauses;
     match repeat_among(book, directives, index) {
