@@ -24,6 +24,11 @@ fn is_repeat(book: &[u8], earlier: Entries, index: &[u32], mark: usize, name: &[
     requires { ⌜ Indexed (earlier .lead) (earlier .first) (earlier .count) (now book) (now index) ⌝ }
     ensures { λ r. ⌜ r ≡ isNamed fold (now (name .entry)) (entriesIn earlier (now (book .entry))) ⌝ }
 {
+    // most names are the first with their signature
+    let head = earlier.lead * 512 + mark;
+    if index[head] == 0 {
+        return false;
+    }
     match last_named(book, earlier, index, mark, name, true) {
         EntryFound::At(_, _) => true,
         EntryFound::Nothing => false,
