@@ -50,6 +50,15 @@ trimmed at xs =
     (record { start = at; end = at })
     (record { start = at + leading isTrimmed xs; end = at + length xs - leading isTrimmed (reverse xs) })
 
+-- a part of a lent text: where its first byte stands, by the block of memory and the place in it, and its bytes
+pub record LentPart : Type 0 where
+  pub at : ℕ × ℕ
+  pub bytes : List ℕ
+
+-- the call on a text that stands at a place: "handed back as a part of the caller's own text", of a blank text too
+abbrev pub trimCall : ℕ × ℕ → List ℕ → LentPart
+trimCall p text = record { at = (p .0, trimmed 0 text .start + p .1); bytes = part text (trimmed 0 text) }
+
 -- two texts agree, byte for byte, once each byte is passed through f (fold ignores case)
 unfoldable pub sameBy : (ℕ → ℕ) → List ℕ → List ℕ → Bool
 sameBy f [] [] = true

@@ -6,7 +6,7 @@ ghost use mathlib.Core.List.{reverse, _++_};
 ghost use Prim.Native.Nat.{_+_, _-_, _≤_};
 ghost use lib.ListN.{length, take, drop, getD};
 ghost use Rattle.ascii.specs.Ascii.{isTrimmed};
-ghost use Rattle.ascii.specs.Text.{leading, trimmed, part, begins, sameBy, firstHigh, foundAt, comparing, holds};
+ghost use Rattle.ascii.specs.Text.{leading, trimmed, LentPart, trimCall, begins, sameBy, firstHigh, foundAt, comparing, holds};
 
 // A range of a text: the place of its first byte and the place after its last.
 pub struct Range {
@@ -94,7 +94,7 @@ pub fn trim_range(text: &[u8]) -> Range
 
 // The trimmed text, a part of the caller's own.
 pub fn trim(text: &[u8]) -> &[u8]
-    ensures { λ r. ⌜ now r ≡ part (now (text .entry)) (trimmed 0 (now (text .entry))) ⌝ }
+    ensures { λ r. ⌜ record { at = r .ptr; bytes = now r } ≡ trimCall (text .entry .ptr) (now (text .entry)) ⌝ }
 {
     let range = trim_range(text);
     let start = range.start;
