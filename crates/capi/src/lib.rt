@@ -1,15 +1,14 @@
 // The public calls for programs in C and Rust: numbers and slices only, and an answer that is one number (include/pelzurda.h).
-mod lines;
-mod sequences;
-
 use clause::ClauseRecord;
-use clause::SequenceAnswer;
-use delimiter::Separator;
+use coded::code_of;
+use coded::language_of;
+use coded::line_code;
+use coded::lines;
+use coded::prefix_of;
+use coded::separator_of;
+use coded::sequence_code;
+use coded::sequences;
 use delimiter::SplitAnswer;
-use lexer::Language;
-use lexer::Prefix;
-use reader::LineAnswer;
-use refusal::Refusal;
 use rulebook::BookAnswer;
 use source::CopyAnswer;
 use source::JoinAnswer;
@@ -18,66 +17,14 @@ ghost use mathlib.Core.Path.{_≡_};
 ghost use Prim.Native.Nat.{_-_};
 ghost use lib.ListN.{length};
 ghost use Rattle.ascii.specs.Text.{trimmed};
-ghost use Rattle.refusal.specs.Table.{numberOf};
 ghost use Rattle.delimiter.specs.Split.{splitCall};
 ghost use Rattle.source.specs.Calls.{joinCall, spanAnswer, copyCall};
 ghost use Rattle.rulebook.specs.Check.{bookCall};
-ghost use Rattle.clause.specs.Calls.{sequenceCall, sequenceGives};
-ghost use Rattle.reader.specs.Calls.{lineCall, lineGives};
-ghost use Rattle.capi.specs.Lines.{LinesCall, linesCall};
-ghost use Rattle.capi.specs.Sequences.{SequencesCall, sequencesCall};
-ghost use Rattle.capi.specs.Coded.{coded, codedYes, codedRefusal, codedSequence, SequenceCoded, sequenceCoded, codedLine, LineCoded, lineCoded, placeCode, restOf, readingNumbers, spanEnds, rangeEnds, isSet, languageOf, prefixOf, separatorOf};
-
-fn place_code(place: usize) -> u64
-    ensures { λ r. ⌜ r ≡ placeCode place ⌝ }
-{
-    if place < 4294967296 {
-        place as u64
-    } else {
-        4294967295
-    }
-}
-
-fn code_of(refused: Refusal) -> u64
-    ensures { λ r. ⌜ r ≡ codedRefusal (numberOf (refused .reason)) (refused .place) ⌝ }
-{
-    let reason = refused.reason;
-    let number = refusal::number(reason) as u64;
-    9223372036854775808 + number * 4294967296 + place_code(refused.place)
-}
-
-fn language_of(language: u32) -> Language
-    ensures { λ r. ⌜ r ≡ languageOf language ⌝ }
-{
-    let free = language == 1;
-    if free {
-        return Language::FortranFree;
-    }
-    let fixed = language == 2;
-    if fixed {
-        Language::FortranFixed
-    } else {
-        Language::C
-    }
-}
-
-fn prefix_of(prefix: u32) -> Prefix
-    ensures { λ r. ⌜ r ≡ prefixOf prefix ⌝ }
-{
-    let acc = prefix == 1;
-    if acc { Prefix::Acc } else { Prefix::Omp }
-}
-
-fn separator_of(colon: u32) -> Separator
-    ensures { λ r. ⌜ r ≡ separatorOf colon ⌝ }
-{
-    let set = colon != 0;
-    if set {
-        Separator::Colon
-    } else {
-        Separator::Comma
-    }
-}
+ghost use Rattle.clause.specs.Calls.{sequenceCall};
+ghost use Rattle.reader.specs.Calls.{lineCall};
+ghost use Rattle.coded.specs.Coded.{coded, codedYes, SequenceCoded, sequenceCoded, LineCoded, lineCoded, spanEnds, rangeEnds, isSet, languageOf, prefixOf, separatorOf};
+ghost use Rattle.coded.specs.Lines.{LinesCall, linesCall};
+ghost use Rattle.coded.specs.Sequences.{SequencesCall, sequencesCall};
 
 // Trim: the length of what is left, and its start and end in the two lent numbers.
 #[no_mangle]
@@ -170,22 +117,6 @@ pub extern "C" fn pelzurda_check_book(book: &[u8]) -> u64
     }
 }
 
-// The count of a sequence's clauses, and the place of the unread rest in the lent number.
-fn sequence_code(answer: SequenceAnswer, rest: &mut [u64; 1]) -> u64
-    ensures { λ r. ⌜ (r ≡ codedSequence (sequenceGives answer)) × (now (rest .exit) ≡ restOf (sequenceGives answer)) ⌝ }
-{
-    match answer {
-        SequenceAnswer::Read(end) => {
-            *rest = [end.rest as u64];
-            end.count as u64
-        }
-        SequenceAnswer::Refused(refused) => {
-            *rest = [0];
-            code_of(refused)
-        }
-    }
-}
-
 // Clause sequence: the number of clauses, whose records fill the front of the slots.
 #[no_mangle]
 pub extern "C" fn pelzurda_sequence(
@@ -199,24 +130,6 @@ pub extern "C" fn pelzurda_sequence(
 {
     let answer = clause::parse_sequence(book, text, records);
     sequence_code(answer, rest)
-}
-
-// The directive's entry of a line, and where its name stands, its clauses' number and the place of the unread rest in the lent numbers.
-fn line_code(answer: LineAnswer, reading: &mut [u64; 4]) -> u64
-    ensures { λ r. ⌜ (r ≡ codedLine (lineGives answer)) × (now (reading .exit) ≡ readingNumbers (lineGives answer)) ⌝ }
-{
-    match answer {
-        LineAnswer::Read(read) => {
-            let name_start = read.name_start as u64;
-            let name_end = read.name_end as u64;
-            *reading = [name_start, name_end, read.count as u64, read.rest as u64];
-            read.entry as u64
-        }
-        LineAnswer::Refused(refused) => {
-            *reading = [0, 0, 0, 0];
-            code_of(refused)
-        }
-    }
 }
 
 // The whole line: the directive's entry in the book, with the joined text, its map and the clause records at the front of their slots.

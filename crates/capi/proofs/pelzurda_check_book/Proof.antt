@@ -3,7 +3,7 @@
 use mathlib.Core.Path.{sym, ap, _∙_}
 use borrow.Author.Needs.{needs}
 use Rattle.rulebook.specs.Check.{bookGives}
-use Rattle.capi.specs.Coded.{codedYes}
+use Rattle.coded.specs.Coded.{codedYes}
 use Rattle.capi.proofs.pelzurda_check_book.Statement.{statement}
 use Rattle.capi.proofs.pelzurda_check_book.Tie as tie
 

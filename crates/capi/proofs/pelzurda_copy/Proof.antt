@@ -3,7 +3,7 @@
 use mathlib.Core.Path.{sym, ap, _∙_}
 use borrow.Author.Needs.{needs}
 use Rattle.source.specs.Calls.{copyGives}
-use Rattle.capi.specs.Coded.{coded}
+use Rattle.coded.specs.Coded.{coded}
 use Rattle.capi.proofs.pelzurda_copy.Statement.{statement}
 use Rattle.capi.proofs.pelzurda_copy.Tie as tie
 

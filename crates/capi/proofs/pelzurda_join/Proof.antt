@@ -4,7 +4,7 @@ use mathlib.Core.Path.{_≡_, sym, ap, _∙_}
 use lib.ListN.{length}
 use borrow.Author.Needs.{needs}
 use Rattle.source.specs.Calls.{JoinCall, joinCall, joinGives}
-use Rattle.capi.specs.Coded.{coded, languageOf, prefixOf}
+use Rattle.coded.specs.Coded.{coded, languageOf, prefixOf}
 use Rattle.capi.proofs.pelzurda_join.Statement.{statement}
 use Rattle.capi.proofs.pelzurda_join.Tie as tie
 

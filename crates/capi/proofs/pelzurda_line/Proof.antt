@@ -1,5 +1,5 @@
 -- `capi::pelzurda_line` meets its contract: a walk of its code by hand. The line and the slots go on to `reader::read_line`, its answer with the
--- lent numbers to `line_code`. Assumes nothing.
+-- lent numbers to `coded::line_code`. Assumes nothing.
 use mathlib.Core.Path.{_≡_, refl, _∙_, ap}
 use Prim.Native.Nat.{ℕ, _<_, _^_}
 use mathlib.Core.List.{[], _∷_, List}
@@ -54,19 +54,19 @@ use Rattle.reader.proofs.read_line as rl
 use Rattle.reader.proofs.read_line.Symbol as rl-def
 use Rattle.reader.proofs.read_line.Symbol.{name as #rl}
 use Rattle.reader.proofs.read_line.Met as rl-thm
-use Rattle.capi.specs.Coded.{codedLine, readingNumbers, LineCoded, lineCoded, languageOf, prefixOf}
-use Rattle.capi.proofs.language_of as lo
-use Rattle.capi.proofs.language_of.Symbol as lo-def
-use Rattle.capi.proofs.language_of.Symbol.{name as #lo}
-use Rattle.capi.proofs.language_of.Met as lo-thm
-use Rattle.capi.proofs.prefix_of as po
-use Rattle.capi.proofs.prefix_of.Symbol as po-def
-use Rattle.capi.proofs.prefix_of.Symbol.{name as #po}
-use Rattle.capi.proofs.prefix_of.Met as po-thm
-use Rattle.capi.proofs.line_code as lc
-use Rattle.capi.proofs.line_code.Symbol as lc-def
-use Rattle.capi.proofs.line_code.Symbol.{name as #lc}
-use Rattle.capi.proofs.line_code.Met as lc-thm
+use Rattle.coded.specs.Coded.{codedLine, readingNumbers, LineCoded, lineCoded, languageOf, prefixOf}
+use Rattle.coded.proofs.language_of as lo
+use Rattle.coded.proofs.language_of.Symbol as lo-def
+use Rattle.coded.proofs.language_of.Symbol.{name as #lo}
+use Rattle.coded.proofs.language_of.Met as lo-thm
+use Rattle.coded.proofs.prefix_of as po
+use Rattle.coded.proofs.prefix_of.Symbol as po-def
+use Rattle.coded.proofs.prefix_of.Symbol.{name as #po}
+use Rattle.coded.proofs.prefix_of.Met as po-thm
+use Rattle.coded.proofs.line_code as lc
+use Rattle.coded.proofs.line_code.Symbol as lc-def
+use Rattle.coded.proofs.line_code.Symbol.{name as #lc}
+use Rattle.coded.proofs.line_code.Met as lc-thm
 use Rattle.capi.proofs.pelzurda_line.Key.{name as #f}
 use Rattle.capi.proofs.pelzurda_line as f
 use Rattle.capi.proofs.pelzurda_line.Statement as stated
@@ -305,7 +305,7 @@ pelzurda-line-spec 𝓤 H 𝓜 𝓖 𝓡 =
     entered 𝓤 H (tripleOf 𝓤 H (𝓖 .A) f.signature (f.spec 𝓤 H (𝓖 .A) (𝓜 .mem) (𝓡 .run)))
     (tables 𝓤 H 𝓜 𝓡 code.env .C) (tables 𝓤 H 𝓜 𝓡 code.env .Λ) #f code.function (code.unfolded 𝓤 H 𝓜 𝓡)
     (f-meets 𝓤 H (𝓖 .A) (givenOf 𝓤 H 𝓜 𝓖) (𝓜 .mem) (𝓡 .run) (tablesOf 𝓤 H 𝓜 (tables 𝓤 H 𝓜 𝓡 code.env))
-    (cited 𝓤 H (LanguageOf 𝓤 H (𝓖 .A) (𝓜 .mem) (𝓡 .run)) 𝓜 𝓡 code.env #lo lo-def.routine code.calls-capi·language-of (lo-thm.met 𝓤 H 𝓜 𝓖 𝓡))
-    (cited 𝓤 H (PrefixOf 𝓤 H (𝓖 .A) (𝓜 .mem) (𝓡 .run)) 𝓜 𝓡 code.env #po po-def.routine code.calls-capi·prefix-of (po-thm.met 𝓤 H 𝓜 𝓖 𝓡))
+    (cited 𝓤 H (LanguageOf 𝓤 H (𝓖 .A) (𝓜 .mem) (𝓡 .run)) 𝓜 𝓡 code.env #lo lo-def.routine code.calls-coded·language-of (lo-thm.met 𝓤 H 𝓜 𝓖 𝓡))
+    (cited 𝓤 H (PrefixOf 𝓤 H (𝓖 .A) (𝓜 .mem) (𝓡 .run)) 𝓜 𝓡 code.env #po po-def.routine code.calls-coded·prefix-of (po-thm.met 𝓤 H 𝓜 𝓖 𝓡))
     (cited 𝓤 H (ReadLine 𝓤 H (𝓖 .A) (𝓜 .mem) (𝓡 .run)) 𝓜 𝓡 code.env #rl rl-def.routine code.calls-reader·read-line (rl-thm.met 𝓤 H 𝓜 𝓖 𝓡))
-    (cited 𝓤 H (Code 𝓤 H (𝓖 .A) (𝓜 .mem) (𝓡 .run)) 𝓜 𝓡 code.env #lc lc-def.routine code.calls-capi·line-code (lc-thm.met 𝓤 H 𝓜 𝓖 𝓡)))
+    (cited 𝓤 H (Code 𝓤 H (𝓖 .A) (𝓜 .mem) (𝓡 .run)) 𝓜 𝓡 code.env #lc lc-def.routine code.calls-coded·line-code (lc-thm.met 𝓤 H 𝓜 𝓖 𝓡)))

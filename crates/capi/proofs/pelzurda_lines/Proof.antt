@@ -5,9 +5,9 @@ use Prim.Native.Nat.{min}
 use lib.ListN.{length}
 use borrow.Author.Needs.{needs}
 use Rattle.rulebook.proofs.Indexes.{fresh}
-use Rattle.capi.specs.Coded.{languageOf, prefixOf}
-use Rattle.capi.specs.Lines.{lineBetween, noLine, answersFrom}
-use Rattle.capi.proofs.Answering.{cleared-all}
+use Rattle.coded.specs.Coded.{languageOf, prefixOf}
+use Rattle.coded.specs.Lines.{lineBetween, noLine, answersFrom}
+use Rattle.coded.proofs.Answering.{cleared-all}
 use Rattle.capi.proofs.pelzurda_lines.Statement.{statement}
 use Rattle.capi.proofs.pelzurda_lines.Tie as tie
 

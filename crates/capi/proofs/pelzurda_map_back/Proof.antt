@@ -3,7 +3,7 @@
 use mathlib.Core.Path.{sym, ap, _∙_}
 use borrow.Author.Needs.{needs}
 use Rattle.source.specs.Calls.{spanGives}
-use Rattle.capi.specs.Coded.{codedYes, spanEnds}
+use Rattle.coded.specs.Coded.{codedYes, spanEnds}
 use Rattle.capi.proofs.pelzurda_map_back.Statement.{statement}
 use Rattle.capi.proofs.pelzurda_map_back.Tie as tie
 

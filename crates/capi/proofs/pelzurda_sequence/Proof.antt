@@ -1,5 +1,5 @@
 -- `capi::pelzurda_sequence` meets its contract: a walk of its code by hand. The text and the slots go on to `clause::parse_sequence`, its answer with
--- the lent number to `sequence_code`. Assumes nothing.
+-- the lent number to `coded::sequence_code`. Assumes nothing.
 use mathlib.Core.Path.{_≡_, refl, _∙_, ap}
 use Prim.Native.Nat.{ℕ}
 use mathlib.Core.List.{[], _∷_, List}
@@ -48,11 +48,11 @@ use Rattle.clause.proofs.parse_sequence as parse
 use Rattle.clause.proofs.parse_sequence.Symbol as parse-def
 use Rattle.clause.proofs.parse_sequence.Symbol.{name as #parse}
 use Rattle.clause.proofs.parse_sequence.Met as parse-thm
-use Rattle.capi.specs.Coded.{codedSequence, restOf, SequenceCoded, sequenceCoded}
-use Rattle.capi.proofs.sequence_code as sc
-use Rattle.capi.proofs.sequence_code.Symbol as sc-def
-use Rattle.capi.proofs.sequence_code.Symbol.{name as #sc}
-use Rattle.capi.proofs.sequence_code.Met as sc-thm
+use Rattle.coded.specs.Coded.{codedSequence, restOf, SequenceCoded, sequenceCoded}
+use Rattle.coded.proofs.sequence_code as sc
+use Rattle.coded.proofs.sequence_code.Symbol as sc-def
+use Rattle.coded.proofs.sequence_code.Symbol.{name as #sc}
+use Rattle.coded.proofs.sequence_code.Met as sc-thm
 use Rattle.capi.proofs.pelzurda_sequence.Key.{name as #f}
 use Rattle.capi.proofs.pelzurda_sequence as f
 use Rattle.capi.proofs.pelzurda_sequence.Statement as stated
@@ -221,4 +221,4 @@ pelzurda-sequence-spec 𝓤 H 𝓜 𝓖 𝓡 =
     (tables 𝓤 H 𝓜 𝓡 code.env .C) (tables 𝓤 H 𝓜 𝓡 code.env .Λ) #f code.function (code.unfolded 𝓤 H 𝓜 𝓡)
     (f-meets 𝓤 H (𝓖 .A) (givenOf 𝓤 H 𝓜 𝓖) (𝓜 .mem) (𝓡 .run) (tablesOf 𝓤 H 𝓜 (tables 𝓤 H 𝓜 𝓡 code.env))
     (cited 𝓤 H (Parse 𝓤 H (𝓖 .A) (𝓜 .mem) (𝓡 .run)) 𝓜 𝓡 code.env #parse parse-def.routine code.calls-clause·parse-sequence (parse-thm.met 𝓤 H 𝓜 𝓖 𝓡))
-    (cited 𝓤 H (Code 𝓤 H (𝓖 .A) (𝓜 .mem) (𝓡 .run)) 𝓜 𝓡 code.env #sc sc-def.routine code.calls-capi·sequence-code (sc-thm.met 𝓤 H 𝓜 𝓖 𝓡)))
+    (cited 𝓤 H (Code 𝓤 H (𝓖 .A) (𝓜 .mem) (𝓡 .run)) 𝓜 𝓡 code.env #sc sc-def.routine code.calls-coded·sequence-code (sc-thm.met 𝓤 H 𝓜 𝓖 𝓡)))

@@ -4,7 +4,7 @@ use mathlib.Core.Path.{_≡_, sym, ap, _∙_}
 use lib.ListN.{length}
 use borrow.Author.Needs.{needs}
 use Rattle.delimiter.specs.Split.{SplitCall, splitCall, splitAnswer}
-use Rattle.capi.specs.Coded.{coded, isSet, separatorOf}
+use Rattle.coded.specs.Coded.{coded, isSet, separatorOf}
 use Rattle.capi.proofs.pelzurda_split.Statement.{statement}
 use Rattle.capi.proofs.pelzurda_split.Tie as tie
 
