@@ -57,6 +57,13 @@ impl Book {
         Self::of(flags, default, &["p"], &clauses)
     }
 
+    /// Names of 10, 13, 18 and 20 bytes: what is asked of eight bytes at once ends with them, overlaps, or takes two turns and three.
+    pub fn long(flags: u8, default: u8) -> Self {
+        let directives = ["ab cdefghi", "abc defghij k", "a bcdefgh ijklmn o"];
+        let clauses = [(0, "abcdefghij"), (1, "abc_defghijk_lmnopqr")];
+        Self::of(flags, default, &directives, &clauses)
+    }
+
     pub fn real(flags: u8, default: u8) -> Self {
         Self::of(flags, default, &DIRECTIVES, &CLAUSES)
     }

@@ -19,7 +19,7 @@ fn ask(book: &[u8]) -> String {
 pub fn boundaries(sink: &mut Sink) {
     let mut two = Book::small(3, 1);
     two.directives.push("b c d".to_string());
-    for book in [Book::small(0, 3).bytes(), two.bytes()] {
+    for book in [Book::small(0, 3).bytes(), two.bytes(), Book::long(0, 3).bytes()] {
         every_cut(&book, sink);
         every_fault(&book, sink);
     }
