@@ -25,8 +25,8 @@ use Rattle.lexer.specs.declared.Skipped.{Skipped}
 use Rattle.lexer.specs.declared.Skipped.the-variants.{Past, OpenAt}
 use Rattle.lexer.specs.Trivia.{skip}
 use Rattle.lexer.proofs.Bounds.{skip-bounds}
-use Rattle.rulebook.specs.declared.ClauseRule.{ClauseRule}
-use Rattle.rulebook.specs.declared.ClauseRule.the-variants.{Bare, Parenthesized, Flexible, Unsupported}
+use Rattle.bookform.specs.declared.ClauseRule.{ClauseRule}
+use Rattle.bookform.specs.declared.ClauseRule.the-variants.{Bare, Parenthesized, Flexible, Unsupported}
 use Rattle.rulebook.specs.Book.{Book}
 use Rattle.rulebook.specs.Lookup.{indexOr, ruleOr}
 use Rattle.clause.proofs.Walking.{by-truth, is-less, is-over}

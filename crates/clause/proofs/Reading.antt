@@ -30,8 +30,8 @@ use Rattle.lexer.specs.declared.Skipped.{Skipped}
 use Rattle.lexer.specs.declared.Skipped.the-variants.{Past, OpenAt}
 use Rattle.lexer.specs.Trivia.{skip}
 use Rattle.lexer.proofs.Bounds.{skip-again}
-use Rattle.rulebook.specs.declared.ClauseRule.{ClauseRule}
-use Rattle.rulebook.specs.declared.ClauseRule.the-variants.{Parenthesized, Flexible}
+use Rattle.bookform.specs.declared.ClauseRule.{ClauseRule}
+use Rattle.bookform.specs.declared.ClauseRule.the-variants.{Parenthesized, Flexible}
 use Rattle.rulebook.specs.declared.ClauseEntry.{ClauseEntry}
 use Rattle.rulebook.specs.declared.Header.{Header}
 use Rattle.rulebook.specs.Book.{Book, bookOf, headerOf}

@@ -13,7 +13,7 @@ use Rattle.lexer.specs.declared.Skipped.{Skipped}
 use Rattle.lexer.specs.declared.Skipped.the-variants.{Past, OpenAt}
 use Rattle.lexer.specs.Trivia.{skip}
 use Rattle.lexer.proofs.Bounds.{skip-bounds}
-use Rattle.rulebook.specs.declared.ClauseRule.the-variants.{Unsupported}
+use Rattle.bookform.specs.declared.ClauseRule.the-variants.{Unsupported}
 use Rattle.rulebook.specs.Book.{Book, bookOf}
 use Rattle.rulebook.specs.Check.{bookFault}
 use Rattle.rulebook.proofs.Appended.{entryFrom-below}

@@ -19,8 +19,8 @@ use Rattle.delimiter.specs.Matching.{matching}
 use Rattle.lexer.specs.declared.Skipped.{Skipped}
 use Rattle.lexer.specs.declared.Skipped.the-variants.{Past, OpenAt}
 use Rattle.lexer.specs.Trivia.{skip}
-use Rattle.rulebook.specs.declared.ClauseRule.{ClauseRule}
-use Rattle.rulebook.specs.declared.ClauseRule.the-variants.{Bare, Parenthesized, Flexible, Unsupported}
+use Rattle.bookform.specs.declared.ClauseRule.{ClauseRule}
+use Rattle.bookform.specs.declared.ClauseRule.the-variants.{Bare, Parenthesized, Flexible, Unsupported}
 use Rattle.rulebook.specs.Book.{Book, bookOf}
 use Rattle.rulebook.specs.Lookup.{indexOr, ruleOr}
 use Rattle.clause.specs.declared.ClauseRecord.{ClauseRecord}

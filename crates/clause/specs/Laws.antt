@@ -5,7 +5,7 @@ use mathlib.Core.Path.{_≡_}
 use mathlib.Core.List.{List}
 use lib.ListN.{length, getD}
 use Rattle.refusal.specs.Answer.{given}
-use Rattle.rulebook.specs.declared.ClauseRule.the-variants.{Unsupported}
+use Rattle.bookform.specs.declared.ClauseRule.the-variants.{Unsupported}
 use Rattle.rulebook.specs.Book.{bookOf}
 use Rattle.rulebook.specs.Check.{bookFault}
 use Rattle.rulebook.specs.Lookup.{IsAppended}

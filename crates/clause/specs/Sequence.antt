@@ -9,8 +9,8 @@ use Rattle.refusal.specs.Answer.{Answer, given, refused}
 use Rattle.lexer.specs.declared.Skipped.{Skipped}
 use Rattle.lexer.specs.declared.Skipped.the-variants.{Past, OpenAt}
 use Rattle.lexer.specs.Trivia.{skip}
-use Rattle.rulebook.specs.declared.ClauseRule.{ClauseRule}
-use Rattle.rulebook.specs.declared.ClauseRule.the-variants.{Bare, Parenthesized, Flexible, Unsupported}
+use Rattle.bookform.specs.declared.ClauseRule.{ClauseRule}
+use Rattle.bookform.specs.declared.ClauseRule.the-variants.{Bare, Parenthesized, Flexible, Unsupported}
 use Rattle.rulebook.specs.Book.{Book}
 use Rattle.clause.specs.declared.ClauseRecord.{ClauseRecord}
 use Rattle.clause.specs.Clause.{clause, failed, deep, clauseAt}

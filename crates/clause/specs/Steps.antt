@@ -19,7 +19,7 @@ use Rattle.delimiter.specs.Code.{scanAt}
 use Rattle.lexer.specs.declared.Skipped.{Skipped}
 use Rattle.lexer.specs.declared.Skipped.the-variants.{Past, OpenAt}
 use Rattle.lexer.specs.Trivia.{skip}
-use Rattle.rulebook.specs.declared.ClauseRule.the-variants.{Bare}
+use Rattle.bookform.specs.declared.ClauseRule.the-variants.{Bare}
 use Rattle.rulebook.specs.declared.Header.{Header}
 use Rattle.rulebook.specs.Book.{Book, bookOf, headerOf, noHeader}
 use Rattle.rulebook.specs.Check.{bookFault}

@@ -20,7 +20,7 @@ ghost use lib.ListN.{length, drop, getD};
 ghost use Rattle.ascii.specs.Ascii.{isWord};
 ghost use Rattle.ascii.specs.Text.{foundAt};
 ghost use Rattle.rulebook.specs.Book.{LaidIn, headerOf, bookOf};
-ghost use Rattle.rulebook.specs.Check.{HasForm};
+ghost use Rattle.bookform.specs.Format.{HasForm};
 ghost use Rattle.rulebook.specs.Index.{Looked};
 ghost use Rattle.directive.specs.Name.{latest, orMissing, nameFrom, named, nameAt, nameGives};
 ghost use Rattle.directive.specs.Steps.{keptIn, entryIf, nextIf, latestOf, Ahead, Placed};

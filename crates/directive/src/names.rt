@@ -6,7 +6,7 @@ use ascii::Found;
 use ascii::class::fold;
 use ascii::class::is_space;
 use ascii::run_end;
-use rulebook::Entries;
+use bookform::Entries;
 use rulebook::EntryFound;
 use rulebook::Header;
 use rulebook::index::look_up;

@@ -10,7 +10,7 @@ use Rattle.lexer.specs.declared.Language.{Language}
 use Rattle.lexer.specs.declared.Language.the-variants.{C}
 use Rattle.lexer.specs.declared.Prefix.{Prefix}
 use Rattle.source.specs.Laws.{Break, broken, isPlain}
-use Rattle.rulebook.specs.declared.ClauseRule.the-variants.{Unsupported}
+use Rattle.bookform.specs.declared.ClauseRule.the-variants.{Unsupported}
 use Rattle.rulebook.specs.Book.{bookOf}
 use Rattle.rulebook.specs.Check.{bookFault}
 use Rattle.rulebook.specs.Lookup.{IsAppended}

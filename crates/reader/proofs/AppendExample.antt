@@ -12,8 +12,8 @@ use Rattle.lexer.specs.Continuation.{breakC}
 use Rattle.lexer.specs.Trivia.{triviaC, skipFrom, skip}
 use Rattle.source.specs.Validation.{checkLine, faultFrom, fault}
 use Rattle.source.specs.Joining.{keptFrom, joinedText}
-use Rattle.rulebook.specs.declared.ClauseRule.the-variants.{Parenthesized, Unsupported}
-use Rattle.rulebook.specs.Format.{badFrom}
+use Rattle.bookform.specs.declared.ClauseRule.the-variants.{Parenthesized, Unsupported}
+use Rattle.bookform.specs.Format.{badFrom}
 use Rattle.rulebook.specs.Book.{entriesFrom, placeAfter, clausesOf, headerOf, bookOf}
 use Rattle.rulebook.specs.Check.{isNamed, repeatFrom, bookFault}
 use Rattle.rulebook.specs.Lookup.{entryFrom, ruleAt, IsAppended}

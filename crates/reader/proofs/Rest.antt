@@ -23,7 +23,7 @@ use Rattle.lexer.proofs.Bounds.{skip-bounds}
 use Rattle.source.specs.Validation.{fault}
 use Rattle.source.specs.Joining.{joinedText}
 use Rattle.source.specs.Calls.{isShort}
-use Rattle.rulebook.specs.declared.ClauseRule.the-variants.{Unsupported}
+use Rattle.bookform.specs.declared.ClauseRule.the-variants.{Unsupported}
 use Rattle.rulebook.specs.Book.{Book, bookOf}
 use Rattle.rulebook.specs.Check.{bookFault}
 use Rattle.clause.specs.Clause.{zeroRecord}

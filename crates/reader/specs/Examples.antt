@@ -20,7 +20,7 @@ use Rattle.lexer.specs.Trivia.{triviaC, triviaF, skipFrom, skip}
 use Rattle.source.specs.Validation.{codeLength, endsIn, continuedF, checkLine, faultFrom, fault}
 use Rattle.source.specs.Joining.{keptFrom, joinedText, joinedMap}
 use Rattle.source.specs.Calls.{JoinCall, joinAnswer, joinCall, spanAnswer}
-use Rattle.rulebook.specs.Format.{badFrom}
+use Rattle.bookform.specs.Format.{badFrom}
 use Rattle.rulebook.specs.Book.{entriesFrom, placeAfter, clausesOf, headerOf, bookOf}
 use Rattle.rulebook.specs.Check.{isNamed, repeatFrom, bookFault, bookCall}
 use Rattle.rulebook.specs.Lookup.{entryFrom, ruleAt}

@@ -13,7 +13,7 @@ use Rattle.lexer.specs.declared.Prefix.{Prefix}
 use Rattle.source.specs.Joining.{joinedText}
 use Rattle.source.specs.Calls.{joinCall}
 use Rattle.source.specs.Laws.{Break, broken, brokenMap, isPlain}
-use Rattle.rulebook.specs.declared.ClauseRule.the-variants.{Unsupported}
+use Rattle.bookform.specs.declared.ClauseRule.the-variants.{Unsupported}
 use Rattle.rulebook.specs.Book.{bookOf}
 use Rattle.rulebook.specs.Check.{bookFault}
 use Rattle.rulebook.specs.Lookup.{IsAppended}

@@ -8,8 +8,8 @@ use mathlib.Core.List.{List, [], _∷_, _++_, map, map-append}
 use native.Mathlib.Omega.{arith}
 use lib.ListN.{length, length-map}
 use Rattle.ascii.specs.Text.{sameBy}
-use Rattle.rulebook.specs.declared.ClauseRule.{ClauseRule}
-use Rattle.rulebook.specs.declared.ClauseRule.the-variants.{Bare}
+use Rattle.bookform.specs.declared.ClauseRule.{ClauseRule}
+use Rattle.bookform.specs.declared.ClauseRule.the-variants.{Bare}
 use Rattle.rulebook.specs.Book.{Entry, Book}
 use Rattle.rulebook.specs.Lookup.{entryFrom, ruleAt, comparison, clauseEntry, IsAppended}
 

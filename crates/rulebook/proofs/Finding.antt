@@ -8,13 +8,12 @@ use Prim.Native.Nat.{ℕ, zero, suc, _+_, _<_}
 use native.Mathlib.Omega.{arith}
 use lib.ListN.{length, getD}
 use Rattle.ascii.specs.Text.{sameBy, part, comparing}
-use Rattle.rulebook.specs.declared.ClauseRule.{ClauseRule}
+use Rattle.bookform.specs.declared.ClauseRule.{ClauseRule}
 use Rattle.rulebook.specs.declared.Header.{Header}
 use Rattle.rulebook.specs.declared.EntryFound.{EntryFound}
 use Rattle.rulebook.specs.declared.EntryFound.the-variants.{At, Nothing}
-use Rattle.rulebook.specs.Format.{ruleFor}
+use Rattle.bookform.specs.Format.{ruleFor, HasForm}
 use Rattle.rulebook.specs.Book.{Entry, ruleSaid, nameAt, entriesFrom, Laid, entriesIn, LaidIn, clausesOf, headerOf, bookOf}
-use Rattle.rulebook.specs.Check.{HasForm}
 use Rattle.rulebook.specs.Lookup.{entryFrom, findFrom, noEntry, ruleAt, clauseEntry}
 use Rattle.rulebook.proofs.Forms.{form-directives, form-clauses}
 

@@ -14,21 +14,14 @@ use Rattle.ascii.specs.Ascii.{isWord}
 use Rattle.ascii.proofs.Flags.{by-cases}
 use Rattle.refusal.specs.declared.Refusal.{Refusal}
 use Rattle.refusal.specs.Answer.{Answer, given, refusedBy, unlessFault}
-use Rattle.rulebook.specs.declared.Expect.{Expect}
-use Rattle.rulebook.specs.declared.Expect.the-variants.{HeaderByte, ClauseCount, DirectiveLength, DirectiveName, Rule, ClauseLength, ClauseName}
-use Rattle.rulebook.specs.declared.Step.{Step}
-use Rattle.rulebook.specs.declared.Step.the-variants.{Next, Bad}
-use Rattle.rulebook.specs.Format.{ruleFor, isKnown, isHeader, isLength, clausesLeft, directivesLeft, whenGood, stepped, endedAt, badFrom}
+use Rattle.bookform.specs.declared.Expect.{Expect}
+use Rattle.bookform.specs.declared.Expect.the-variants.{HeaderByte, ClauseCount, DirectiveLength, DirectiveName, Rule, ClauseLength, ClauseName}
+use Rattle.bookform.specs.declared.Step.{Step}
+use Rattle.bookform.specs.declared.Step.the-variants.{Next, Bad}
+use Rattle.bookform.specs.Format.{ruleFor, isKnown, isHeader, isLength, clausesLeft, directivesLeft, stepped, endedAt, badFrom, HasForm}
 use Rattle.rulebook.specs.Book.{nameAt, placeAfter, Laid, LaidIn, directivesOf, clausesOf}
-use Rattle.rulebook.specs.Check.{HasForm, orElse, bookFault, bookCall}
-use Rattle.rulebook.proofs.Steps.{at-least, bad-here, bad-later, bad-end}
-
-pub never : {X : Type 0} (p : ℕ) → _≡_ {A = Option ℕ} (some p) none → X
-never p e = let z : _≡_ {A = ℕ} 0 1 = cc in absurd (omega arith)
-
-pub when-next : (b : Bool) (e next : Expect) → whenGood b e ≡ Next next → (b ≡ true) × (next ≡ e)
-when-next true e next h = (refl, cc)
-when-next false e next h = let z : _≡_ {A = ℕ} 0 1 = cc in absurd (omega arith)
+use Rattle.rulebook.specs.Check.{orElse, bookFault, bookCall}
+use Rattle.bookform.proofs.Steps.{never, when-next, at-least, bad-here, bad-later, bad-end}
 
 module _ (bs : List ℕ) where
   -- where no fault is ahead and a byte is waited for, it is there and leads on

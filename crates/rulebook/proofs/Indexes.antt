@@ -8,10 +8,10 @@ use native.Mathlib.Omega.{arith}
 use lib.ListN.{getD, replicate, length-replicate}
 use Rattle.refusal.specs.Answer.{given, refused}
 use Rattle.rulebook.specs.declared.Header.{Header}
-use Rattle.rulebook.specs.declared.Expect.the-variants.{HeaderByte}
-use Rattle.rulebook.specs.Format.{badFrom}
+use Rattle.bookform.specs.declared.Expect.the-variants.{HeaderByte}
+use Rattle.bookform.specs.Format.{badFrom, HasForm}
 use Rattle.rulebook.specs.Book.{entriesIn, clausesOf, headerOf, bookOf}
-use Rattle.rulebook.specs.Check.{HasForm, repeatFrom, orElse, bookFault, bookCall}
+use Rattle.rulebook.specs.Check.{repeatFrom, orElse, bookFault, bookCall}
 use Rattle.rulebook.specs.Index.{Indexed, Fresh, Blank, Elsewhere, Indexes}
 use Rattle.rulebook.proofs.Finding.{book-directives, book-clauses}
 use Rattle.rulebook.proofs.Indexing.{some-none}

@@ -6,13 +6,13 @@ use lib.ListN.{length, getD}
 use lib.Dec.{eqb}
 use Rattle.ascii.specs.declared.Range.{Range}
 use Rattle.ascii.specs.Text.{part}
-use Rattle.rulebook.specs.declared.ClauseRule.{ClauseRule}
-use Rattle.rulebook.specs.declared.ClauseRule.the-variants.{Bare, Unsupported}
-use Rattle.rulebook.specs.declared.RuleByte.{RuleByte}
-use Rattle.rulebook.specs.declared.RuleByte.the-variants.{Known, Unknown}
-use Rattle.rulebook.specs.declared.Entries.{Entries}
+use Rattle.bookform.specs.declared.ClauseRule.{ClauseRule}
+use Rattle.bookform.specs.declared.ClauseRule.the-variants.{Bare, Unsupported}
+use Rattle.bookform.specs.declared.RuleByte.{RuleByte}
+use Rattle.bookform.specs.declared.RuleByte.the-variants.{Known, Unknown}
+use Rattle.bookform.specs.declared.Entries.{Entries}
 use Rattle.rulebook.specs.declared.Header.{Header}
-use Rattle.rulebook.specs.Format.{ruleFor}
+use Rattle.bookform.specs.Format.{ruleFor}
 
 -- a name, the place of its entry's first byte, and a clause's rule
 pub record Entry : Type 0 where

@@ -10,8 +10,8 @@ use Rattle.refusal.specs.Answer.{Answer, given, refusedBy, unlessFault}
 use Rattle.rulebook.specs.declared.BookAnswer.{BookAnswer}
 use Rattle.rulebook.specs.declared.BookAnswer.the-variants.{Valid, Refused}
 use Rattle.rulebook.specs.declared.CheckedBook.{CheckedBook}
-use Rattle.rulebook.specs.declared.Expect.the-variants.{HeaderByte}
-use Rattle.rulebook.specs.Format.{badFrom}
+use Rattle.bookform.specs.declared.Expect.the-variants.{HeaderByte}
+use Rattle.bookform.specs.Format.{badFrom}
 use Rattle.rulebook.specs.Book.{Entry, bookOf, headerOf}
 
 -- an entry has the name, by a comparison
@@ -29,10 +29,6 @@ repeatFrom earlier (e ∷ es) = cond (isNamed fold (e .name) earlier) (some (e .
 abbrev pub orElse : Option ℕ → Option ℕ → Option ℕ
 orElse none b = b
 orElse (some p) b = some p
-
--- "repeats aside": no byte of it is bad, and it is not cut
-abbrev pub HasForm : List ℕ → Type 0
-HasForm bs = badFrom (HeaderByte 0) 0 bs ≡ none
 
 -- row 4: "first bad byte, its end if cut; with no such fault, the first byte of the first entry that repeats an earlier name".
 -- "No two directive names, and no two clause names, are equal": the two kinds apart. "A book is valid if row 4 of the table finds nothing in it."

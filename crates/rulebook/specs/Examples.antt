@@ -5,7 +5,7 @@ use mathlib.Core.Path.{_≡_, refl}
 use mathlib.Core.List.{List, [], _∷_, _++_, map}
 use lib.ListN.{length, take}
 use Rattle.ascii.specs.Text.{bytes, sameBy}
-use Rattle.rulebook.specs.Format.{badFrom}
+use Rattle.bookform.specs.Format.{badFrom}
 use Rattle.rulebook.specs.Book.{entriesFrom, placeAfter, clausesOf, headerOf, bookOf}
 use Rattle.rulebook.specs.Check.{isNamed, repeatFrom, bookFault}
 

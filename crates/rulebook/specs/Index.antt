@@ -8,7 +8,7 @@ use mathlib.Core.Path.{_≡_}
 use lib.ListN.{length, getD}
 use lib.Dec.{eqb}
 use Rattle.ascii.specs.Text.{part, sameBy}
-use Rattle.rulebook.specs.declared.Entries.{Entries}
+use Rattle.bookform.specs.declared.Entries.{Entries}
 use Rattle.rulebook.specs.declared.EntryFound.{EntryFound}
 use Rattle.rulebook.specs.declared.EntryFound.the-variants.{At, Nothing}
 use Rattle.rulebook.specs.Book.{nameAt, placeAfter, entriesIn, headerOf}

@@ -1,9 +1,6 @@
-pub mod Format
-pub mod Standing
 pub mod Book
 pub mod Check
 pub mod Lookup
 pub mod Signature
 pub mod Index
 pub mod Examples
-pub mod Grammar

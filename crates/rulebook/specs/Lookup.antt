@@ -5,7 +5,7 @@ use mathlib.Core.Option.{Option, some, none}
 use mathlib.Core.Path.{_≡_}
 use mathlib.Core.List.{List, [], _∷_, _++_, map}
 use Rattle.ascii.specs.Text.{sameBy, comparing}
-use Rattle.rulebook.specs.declared.ClauseRule.{ClauseRule}
+use Rattle.bookform.specs.declared.ClauseRule.{ClauseRule}
 use Rattle.rulebook.specs.declared.ClauseEntry.{ClauseEntry}
 use Rattle.rulebook.specs.declared.EntryFound.{EntryFound}
 use Rattle.rulebook.specs.declared.EntryFound.the-variants.{At, Nothing}

@@ -1,9 +1,9 @@
 // The index of a book, and looking names up by it.
-use crate::Entries;
 use crate::EntryFound;
-use crate::format::wide;
 use crate::lookup::name_at;
 use crate::lookup::same;
+use bookform::Entries;
+use bookform::format::wide;
 ghost use mathlib.Core.Path.{_≡_};
 ghost use Prim.Native.Nat.{_<_};
 ghost use Rattle.ascii.specs.Text.{comparing};

@@ -1,23 +1,22 @@
 // Reading a book whose form is right: its header, its entries, and names looked up among them.
 use crate::ClauseEntry;
-use crate::ClauseRule;
-use crate::Entries;
 use crate::EntryFound;
 use crate::Header;
-use crate::RuleByte;
-use crate::format::rule_for;
-use crate::format::wide;
 use crate::index::look_up;
 use ascii::Range;
 use ascii::class::fold;
+use bookform::ClauseRule;
+use bookform::Entries;
+use bookform::RuleByte;
+use bookform::format::rule_for;
+use bookform::format::wide;
 ghost use mathlib.Core.Path.{_≡_};
 ghost use Prim.Native.Nat.{_-_, _≤_};
 ghost use lib.ListN.{length, take, drop};
 ghost use lib.Dec.{eqb};
 ghost use Rattle.ascii.specs.Text.{sameBy, comparing};
-ghost use Rattle.rulebook.specs.Format.{ruleFor};
+ghost use Rattle.bookform.specs.Format.{ruleFor, HasForm};
 ghost use Rattle.rulebook.specs.Book.{ruleSaid, nameAt, placeAfter, Laid, LaidIn, headerOf, bookOf, noHeader};
-ghost use Rattle.rulebook.specs.Check.{HasForm};
 ghost use Rattle.rulebook.specs.Lookup.{clauseEntry};
 ghost use Rattle.rulebook.specs.Index.{Looked};
 

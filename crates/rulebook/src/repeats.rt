@@ -1,11 +1,11 @@
 // Names that repeat earlier ones, found by the index that is made on the way.
-use crate::Entries;
 use crate::EntryFound;
 use crate::Header;
 use crate::index::last_named;
 use crate::index::signature;
 use crate::lookup::name_at;
 use ascii::Found;
+use bookform::Entries;
 ghost use mathlib.Core.Path.{_≡_};
 ghost use mathlib.Core.Option.{none};
 ghost use mathlib.Core.List.{[]};
@@ -13,7 +13,8 @@ ghost use Prim.Native.Nat.{_<_, _≤_};
 ghost use Rattle.ascii.specs.Ascii.{fold};
 ghost use Rattle.ascii.specs.Text.{foundAt};
 ghost use Rattle.rulebook.specs.Book.{entriesIn, LaidIn, headerOf, bookOf};
-ghost use Rattle.rulebook.specs.Check.{isNamed, repeatFrom, orElse, HasForm};
+ghost use Rattle.bookform.specs.Format.{HasForm};
+ghost use Rattle.rulebook.specs.Check.{isNamed, repeatFrom, orElse};
 ghost use Rattle.rulebook.specs.Signature.{signature as signatureOf};
 ghost use Rattle.rulebook.specs.Index.{Indexed, Fresh, Blank, Elsewhere, Indexes};
 

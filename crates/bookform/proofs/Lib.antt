@@ -1,0 +1,4 @@
+pub mod Steps
+pub mod Standings
+pub mod Grammars
+pub mod Beginnings

@@ -1,0 +1,3 @@
+pub mod Format
+pub mod Standing
+pub mod Grammar
