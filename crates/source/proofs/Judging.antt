@@ -20,7 +20,7 @@ use Rattle.refusal.specs.Verdict.{faultBy, textVerdict, orRefused}
 use Rattle.refusal.proofs.Admission.{admits, admits-length}
 use Rattle.lexer.specs.declared.Language.{Language}
 use Rattle.lexer.specs.declared.Prefix.{Prefix}
-use Rattle.source.specs.Validation.{fault}
+use Rattle.validation.specs.Validation.{fault}
 use Rattle.source.specs.Joining.{joinedText, joinedMap, collapsed}
 use Rattle.source.specs.Calls.{isShort, joinAnswer, joinCall, copyCall}
 use Rattle.source.specs.Verdicts.{andCheck, shortBuffer, joinVerdict, copyVerdict}

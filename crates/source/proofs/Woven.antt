@@ -16,12 +16,12 @@ use Rattle.refusal.specs.Answer.{given, maxLength}
 use Rattle.lexer.specs.declared.Language.the-variants.{C}
 use Rattle.lexer.specs.declared.Prefix.{Prefix}
 use Rattle.lexer.specs.Continuation.{breakC}
-use Rattle.source.specs.declared.Checked.the-variants.{Fine, Next}
-use Rattle.source.specs.Validation.{lineLength, eolBytes, isOver, checkLine, faultFrom, fault}
+use Rattle.validation.specs.declared.Checked.the-variants.{Fine, Next}
+use Rattle.validation.specs.Validation.{lineLength, eolBytes, isOver, checkLine, faultFrom, fault}
+use Rattle.validation.proofs.Checking.{length-leading, fault-nil, fault-fine, fault-next}
 use Rattle.source.specs.Joining.{keptFrom, byteOf, placeOf, joinedText, joinedMap}
 use Rattle.source.specs.Calls.{joinAnswer, joinCall}
 use Rattle.source.proofs.Kept.{kept-first}
-use Rattle.source.proofs.Checking.{length-leading, fault-nil, fault-fine, fault-next}
 
 -- xs is the text t with breaks put into it
 pub data Woven : List ℕ → List ℕ → Type 0 where

@@ -14,7 +14,7 @@ use Rattle.source.specs.declared.SpanAnswer.{SpanAnswer}
 use Rattle.source.specs.declared.SpanAnswer.the-variants as SpanAnswer
 use Rattle.source.specs.declared.CopyAnswer.{CopyAnswer}
 use Rattle.source.specs.declared.CopyAnswer.the-variants as CopyAnswer
-use Rattle.source.specs.Validation.{fault}
+use Rattle.validation.specs.Validation.{fault}
 use Rattle.source.specs.Joining.{joinedText, joinedMap, collapsed}
 
 -- Join alone: the text's length.

@@ -8,7 +8,7 @@ use Rattle.refusal.specs.Answer.{Answer, given, refused}
 use Rattle.lexer.specs.declared.Language.the-variants.{C, FortranFree}
 use Rattle.lexer.specs.declared.Prefix.the-variants.{Omp}
 use Rattle.lexer.specs.Continuation.{breakC, breakF, sentinel, sentinelEnded, sentinelAny, eol, commentF, marker, lead}
-use Rattle.source.specs.Validation.{codeLength, endsIn, continuedF, checkLine, faultFrom, fault}
+use Rattle.validation.specs.Validation.{codeLength, endsIn, continuedF, checkLine, faultFrom, fault}
 use Rattle.source.specs.Joining.{keptFrom, joinedText, joinedMap, collapsed}
 use Rattle.source.specs.Calls.{joinAnswer, joinCall, spanAnswer, copyCall}
 

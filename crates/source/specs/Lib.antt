@@ -1,4 +1,3 @@
-pub mod Validation
 pub mod Joining
 pub mod Staying
 pub mod Calls

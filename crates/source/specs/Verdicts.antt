@@ -10,7 +10,7 @@ use Rattle.refusal.specs.declared.Verdict.the-variants.{Fine, Bad}
 use Rattle.refusal.specs.Verdict.{faultBy, textVerdict}
 use Rattle.lexer.specs.declared.Language.{Language}
 use Rattle.lexer.specs.declared.Prefix.{Prefix}
-use Rattle.source.specs.Validation.{fault}
+use Rattle.validation.specs.Validation.{fault}
 use Rattle.source.specs.Calls.{isShort}
 
 -- a check, and the check after it

@@ -1,7 +1,6 @@
-// One logical line of several physical ones: validation, joining with its byte map, map-back, content copy.
+// One logical line of several physical ones: joining with its byte map, map-back, content copy.
 pub mod joining;
 mod runs;
-pub mod validation;
 
 use ascii::Found;
 use lexer::Language;
@@ -13,22 +12,6 @@ ghost use mathlib.Core.Path.{_≡_};
 ghost use lib.ListN.{length};
 ghost use Rattle.source.specs.Calls.{isShort, joinCall, joinGives, spanAnswer, spanGives, copyCall, copyGives};
 ghost use Rattle.source.specs.Verdicts.{joinVerdict, copyVerdict};
-
-// What a physical line, with all that follows it, says of the whole: all is well, a fault at a place,
-// or well as far as the next physical line, so many bytes on.
-pub enum Checked {
-    Fine,
-    WrongAt(usize),
-    Next(usize),
-}
-
-// Where the scan of a physical line stands: outside of literals, inside one with its quote, or after a quote in one that
-// may be the first of two.
-pub enum Quoting {
-    Outside,
-    Inside(u8),
-    Closing(u8),
-}
 
 // The length of the joined text, or a refusal.
 pub enum JoinAnswer {
