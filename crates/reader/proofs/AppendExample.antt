@@ -10,7 +10,7 @@ use Rattle.lexer.specs.declared.Language.the-variants.{C}
 use Rattle.lexer.specs.declared.Prefix.the-variants.{Omp}
 use Rattle.lexer.specs.Continuation.{breakC}
 use Rattle.lexer.specs.Trivia.{triviaC, skipFrom, skip}
-use Rattle.source.specs.Validation.{checkLine, faultFrom, fault}
+use Rattle.validation.specs.Validation.{checkLine, faultFrom, fault}
 use Rattle.source.specs.Joining.{keptFrom, joinedText}
 use Rattle.bookform.specs.declared.ClauseRule.the-variants.{Parenthesized, Unsupported}
 use Rattle.bookform.specs.Format.{badFrom}

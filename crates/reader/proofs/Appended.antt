@@ -9,7 +9,7 @@ use Rattle.refusal.proofs.Answers.{andThen-given, Keeps, keeps-cond, keeps-faul
 use Rattle.lexer.specs.declared.Language.{Language}
 use Rattle.lexer.specs.declared.Language.the-variants.{C, FortranFree, FortranFixed}
 use Rattle.lexer.specs.declared.Prefix.{Prefix}
-use Rattle.source.specs.Validation.{fault}
+use Rattle.validation.specs.Validation.{fault}
 use Rattle.source.specs.Joining.{joinedText}
 use Rattle.source.specs.Calls.{isShort}
 use Rattle.bookform.specs.declared.ClauseRule.the-variants.{Unsupported}

@@ -10,7 +10,7 @@ use borrow.Author.Tests.{le-ltb}
 use Rattle.refusal.specs.Answer.{refused, unlessFault, maxLength}
 use Rattle.lexer.specs.declared.Language.the-variants.{C}
 use Rattle.lexer.specs.declared.Prefix.{Prefix}
-use Rattle.source.specs.Validation.{fault}
+use Rattle.validation.specs.Validation.{fault}
 use Rattle.source.proofs.Woven.{Woven, fits, low, no-fault, woven-joined}
 use Rattle.source.proofs.BreakLaw.{woven-text, woven-broken, breaks-keep-text}
 use Rattle.rulebook.specs.Book.{bookOf}

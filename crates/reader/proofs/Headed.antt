@@ -16,7 +16,7 @@ use Rattle.refusal.proofs.Answers.{andThen-given, sure-of}
 use Rattle.lexer.specs.declared.Language.{Language}
 use Rattle.lexer.specs.declared.Language.the-variants.{C, FortranFree, FortranFixed}
 use Rattle.lexer.specs.declared.Prefix.{Prefix}
-use Rattle.source.specs.Validation.{fault}
+use Rattle.validation.specs.Validation.{fault}
 use Rattle.source.specs.Joining.{joinedText, joinedMap}
 use Rattle.source.specs.Calls.{isShort}
 use Rattle.rulebook.specs.declared.Header.{Header}

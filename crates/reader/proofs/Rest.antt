@@ -20,7 +20,7 @@ use Rattle.lexer.specs.Continuation.{prefixBytes, openingSentinel}
 use Rattle.lexer.specs.Trivia.{skip}
 use Rattle.lexer.specs.Steps.{triviaStep, passedSome, someTriviaStep, wordStep}
 use Rattle.lexer.proofs.Bounds.{skip-bounds}
-use Rattle.source.specs.Validation.{fault}
+use Rattle.validation.specs.Validation.{fault}
 use Rattle.source.specs.Joining.{joinedText}
 use Rattle.source.specs.Calls.{isShort}
 use Rattle.bookform.specs.declared.ClauseRule.the-variants.{Unsupported}

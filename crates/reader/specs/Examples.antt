@@ -17,7 +17,7 @@ use Rattle.lexer.specs.declared.Language.the-variants.{C, FortranFree}
 use Rattle.lexer.specs.declared.Prefix.the-variants.{Omp}
 use Rattle.lexer.specs.Continuation.{breakC, breakF, sentinel, sentinelEnded, sentinelAny, eol, commentF, marker, lead}
 use Rattle.lexer.specs.Trivia.{triviaC, triviaF, skipFrom, skip}
-use Rattle.source.specs.Validation.{codeLength, endsIn, continuedF, checkLine, faultFrom, fault}
+use Rattle.validation.specs.Validation.{codeLength, endsIn, continuedF, checkLine, faultFrom, fault}
 use Rattle.source.specs.Joining.{keptFrom, joinedText, joinedMap}
 use Rattle.source.specs.Calls.{JoinCall, joinAnswer, joinCall, spanAnswer}
 use Rattle.bookform.specs.Format.{badFrom}

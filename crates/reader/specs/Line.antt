@@ -12,7 +12,7 @@ use Rattle.lexer.specs.declared.Prefix.{Prefix}
 use Rattle.lexer.specs.Continuation.{prefixBytes, sentinel, openingSentinel}
 use Rattle.lexer.specs.Trivia.{skip}
 use Rattle.lexer.specs.Steps.{triviaStep, someTriviaStep, wordStep}
-use Rattle.source.specs.Validation.{fault}
+use Rattle.validation.specs.Validation.{fault}
 use Rattle.source.specs.Joining.{joinedText}
 use Rattle.source.specs.Calls.{isShort}
 use Rattle.rulebook.specs.Book.{Book, bookOf}

@@ -12,7 +12,7 @@ use Rattle.refusal.specs.Verdict.{orRefused}
 use Rattle.lexer.specs.declared.Language.{Language}
 use Rattle.lexer.specs.declared.Language.the-variants.{C, FortranFree, FortranFixed}
 use Rattle.lexer.specs.declared.Prefix.{Prefix}
-use Rattle.source.specs.Validation.{fault}
+use Rattle.validation.specs.Validation.{fault}
 use Rattle.source.specs.Joining.{joinedText, joinedMap}
 use Rattle.source.specs.Calls.{isShort}
 use Rattle.clause.specs.declared.SequenceAnswer.{SequenceAnswer}

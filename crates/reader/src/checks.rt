@@ -6,7 +6,6 @@ use refusal::Reason;
 use refusal::Refusal;
 use refusal::Verdict;
 use rulebook::BookAnswer;
-use source::validation;
 ghost use mathlib.Core.Path.{_≡_};
 ghost use Rattle.rulebook.specs.Check.{bookGives};
 ghost use Rattle.reader.specs.Steps.{checkOf, callCheck, suited, lineCheck};
