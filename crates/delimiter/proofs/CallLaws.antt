@@ -15,13 +15,13 @@ use Rattle.refusal.specs.declared.Verdict.the-variants.{Fine, Bad}
 use Rattle.refusal.specs.Answer.{Answer, given, refused, refusedBy, admitted, slots, maxLength}
 use Rattle.refusal.specs.Verdict.{textVerdict, orRefused}
 use Rattle.refusal.proofs.Admission.{admits, admits-length}
-use Rattle.delimiter.specs.declared.CommentStyle.the-variants.{Block}
-use Rattle.delimiter.specs.declared.Unclosed.{Unclosed}
-use Rattle.delimiter.specs.declared.Unclosed.the-variants.{Nothing, Quote, Comment}
+use Rattle.code.specs.declared.CommentStyle.the-variants.{Block}
+use Rattle.code.specs.declared.Unclosed.{Unclosed}
+use Rattle.code.specs.declared.Unclosed.the-variants.{Nothing, Quote, Comment}
+use Rattle.code.specs.Code.{scanAt}
 use Rattle.delimiter.specs.declared.Separator.{Separator}
 use Rattle.delimiter.specs.declared.SplitAnswer.{SplitAnswer}
 use Rattle.delimiter.specs.declared.SplitAnswer.the-variants.{Items, Refused}
-use Rattle.delimiter.specs.Code.{scanAt}
 use Rattle.delimiter.specs.Split.{fresh, unlessOpen, splitFrom, split, SplitCall, flat, countOf, splitCall, splitAnswer}
 use Rattle.delimiter.specs.Cutting.{openVerdict, orElse, splitVerdict, remaining, laid, outcome, writtenBy}
 use Rattle.delimiter.proofs.SplitLaws.{remaining-in}

@@ -1,6 +1,2 @@
-pub mod Laws
-pub mod Stack
-pub mod MatchLaws
 pub mod SplitLaws
 pub mod CallLaws
-pub mod WalkLaws

@@ -13,17 +13,17 @@ use Rattle.ascii.specs.declared.Range.{Range}
 use Rattle.ascii.proofs.Slots.{pushed}
 use Rattle.ascii.proofs.Flags.{or-none, by-cases}
 use Rattle.refusal.specs.Answer.{Answer, given, refused}
-use Rattle.delimiter.specs.declared.CommentStyle.the-variants.{Block}
+use Rattle.code.specs.declared.CommentStyle.the-variants.{Block}
+use Rattle.code.specs.Code.{scanAt, onward}
+use Rattle.code.specs.Bracket.{isBracket, isEmpty, held, deep, wrong}
+use Rattle.code.proofs.Laws.{onward-code, onward-end}
+use Rattle.code.proofs.Stack.{taken-plain}
 use Rattle.delimiter.specs.declared.Separator.{Separator}
 use Rattle.delimiter.specs.declared.Separator.the-variants.{Comma, Colon}
 use Rattle.delimiter.specs.declared.Turn.{Turn}
 use Rattle.delimiter.specs.declared.Turn.the-variants.{Ends, Goes}
-use Rattle.delimiter.specs.Code.{scanAt, onward}
-use Rattle.delimiter.specs.Bracket.{isBracket, isEmpty, held, deep, wrong}
 use Rattle.delimiter.specs.Split.{separatorByte, nextSolid, solid, isMark, bracketed, turned, Splitting, fresh, item, segment, onBrackets, onTurn, consed, splitFrom, flat}
 use Rattle.delimiter.specs.Cutting.{lastEnd, remaining, cut, Cuts, Waits, laid}
-use Rattle.delimiter.proofs.Laws.{onward-code, onward-end}
-use Rattle.delimiter.proofs.Stack.{taken-plain}
 
 -- the next solid byte
 module _ (s : List ℕ) (i : ℕ) where

@@ -10,9 +10,11 @@ use Rattle.refusal.specs.declared.Verdict.{Verdict}
 use Rattle.refusal.specs.declared.Verdict.the-variants.{Fine, Bad}
 use Rattle.refusal.specs.declared.Reason.the-variants.{UnclosedComment, UnclosedQuote, UnclosedBracket}
 use Rattle.refusal.specs.Verdict.{textVerdict}
-use Rattle.delimiter.specs.declared.CommentStyle.the-variants.{Block}
-use Rattle.delimiter.specs.declared.Unclosed.{Unclosed}
-use Rattle.delimiter.specs.declared.Unclosed.the-variants.{Nothing, Quote, Comment}
+use Rattle.code.specs.declared.CommentStyle.the-variants.{Block}
+use Rattle.code.specs.declared.Unclosed.{Unclosed}
+use Rattle.code.specs.declared.Unclosed.the-variants.{Nothing, Quote, Comment}
+use Rattle.code.specs.Code.{scanFrom, scanAt}
+use Rattle.code.specs.Bracket.{isEmpty}
 use Rattle.delimiter.specs.declared.Separator.{Separator}
 use Rattle.delimiter.specs.declared.Turn.{Turn}
 use Rattle.delimiter.specs.declared.Turn.the-variants.{Ends, Goes}
@@ -22,8 +24,6 @@ use Rattle.delimiter.specs.declared.NextItem.{NextItem}
 use Rattle.delimiter.specs.declared.NextItem.the-variants as NextItem
 use Rattle.delimiter.specs.declared.SplitAnswer.{SplitAnswer}
 use Rattle.delimiter.specs.declared.SplitAnswer.the-variants.{Items, Refused}
-use Rattle.delimiter.specs.Code.{scanFrom, scanAt}
-use Rattle.delimiter.specs.Bracket.{isEmpty}
 use Rattle.delimiter.specs.Split.{separatorByte, fresh, splitFrom, item, segment, consed, flat}
 
 -- the verdict of rows 16 and 8

@@ -2,18 +2,14 @@
 use Prim.Native.Nat.{ℕ}
 use mathlib.Core.Bool.{true, false}
 use mathlib.Core.Path.{_≡_, refl}
-use mathlib.Core.List.{List, [], _∷_, _++_, map}
+use mathlib.Core.List.{List, [], _∷_, map}
 use lib.ListN.{replicate}
 use Prim.Native.String.{String}
 use Rattle.ascii.specs.Text.{bytes, leading, upTo, trimmed, firstHigh}
 use Rattle.refusal.specs.Answer.{Answer, given, refused}
-use Rattle.delimiter.specs.declared.CommentStyle.the-variants.{Block, CLike, Fortran}
-use Rattle.delimiter.specs.declared.Match.{Match}
-use Rattle.delimiter.specs.declared.Match.the-variants.{ClosedAt, Unmatched, DeepAt}
+use Rattle.code.specs.Code.{literal, blockEnd, piece, scanFrom}
+use Rattle.code.specs.Bracket.{taken}
 use Rattle.delimiter.specs.declared.Separator.the-variants.{Comma, Colon}
-use Rattle.delimiter.specs.Code.{literal, blockEnd, piece, scanFrom}
-use Rattle.delimiter.specs.Bracket.{taken}
-use Rattle.delimiter.specs.Matching.{matchFrom, matching}
 use Rattle.delimiter.specs.Split.{nextSolid, bracketed, turned, splitFrom, split, SplitCall, flat, splitCall, countOf}
 
 -- a call with eight numbers lent
@@ -71,14 +67,3 @@ pub kinds :
     ≡ given 2 ∷ given 2 ∷ given 2 ∷ given 2 ∷ given 2 ∷ [])
 unfolding leading upTo trimmed literal blockEnd piece scanFrom taken nextSolid bracketed turned splitFrom split
 kinds = (refl, refl, refl)
-
--- matching, after an open parenthesis: "`if(a) 'b` is 12", line comments by the style, and "a clause's own counts"
-pub matches :
-    (map (λ (s : String). matching CLike 3 (bytes s)) ("a) 'b" ∷ "x) ' '" ∷ "//\r)" ∷ "x//y)" ∷ "/*)*/)" ∷ "[)]" ∷ "<)" ∷ "']')" ∷ "a" ∷ [])
-    ≡ Unmatched ∷ ClosedAt 4 ∷ ClosedAt 6 ∷ Unmatched ∷ ClosedAt 8 ∷ Unmatched ∷ ClosedAt 4 ∷ ClosedAt 6 ∷ Unmatched ∷ [])
-    × (map (λ (s : String). matching Fortran 3 (bytes s)) ("!$)" ∷ "!)" ∷ "x//y)" ∷ "x)!'" ∷ "x)!$'" ∷ "'\\')" ∷ [])
-    ≡ ClosedAt 5 ∷ Unmatched ∷ ClosedAt 7 ∷ ClosedAt 4 ∷ Unmatched ∷ Unmatched ∷ [])
-    × (matching CLike 0 (replicate 256 40) ≡ DeepAt 255)
-    × (matching CLike 0 (replicate 255 91 ++ replicate 255 93 ++ 41 ∷ []) ≡ ClosedAt 510)
-unfolding upTo literal blockEnd piece scanFrom taken matchFrom matching
-matches = (refl, refl, refl, refl)

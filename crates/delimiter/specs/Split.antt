@@ -8,17 +8,17 @@ use Rattle.ascii.specs.Ascii.{isTrimmed, isWord}
 use Rattle.ascii.specs.Text.{trimmed, firstHigh}
 use Rattle.ascii.specs.declared.Range.{Range}
 use Rattle.refusal.specs.Answer.{Answer, given, refused, refusedBy, admitted, slots}
-use Rattle.delimiter.specs.declared.CommentStyle.the-variants.{Block}
-use Rattle.delimiter.specs.declared.Unclosed.{Unclosed}
-use Rattle.delimiter.specs.declared.Unclosed.the-variants.{Nothing, Quote, Comment}
+use Rattle.code.specs.declared.CommentStyle.the-variants.{Block}
+use Rattle.code.specs.declared.Unclosed.{Unclosed}
+use Rattle.code.specs.declared.Unclosed.the-variants.{Nothing, Quote, Comment}
+use Rattle.code.specs.Code.{CodeByte, Scan, scanFrom, scanAt}
+use Rattle.code.specs.Bracket.{isBracket, isEmpty, topIs, Brackets, held, deep, wrong, push, taken}
 use Rattle.delimiter.specs.declared.Separator.{Separator}
 use Rattle.delimiter.specs.declared.Separator.the-variants.{Comma, Colon}
 use Rattle.delimiter.specs.declared.Turn.{Turn}
 use Rattle.delimiter.specs.declared.Turn.the-variants.{Ends, Goes}
 use Rattle.delimiter.specs.declared.SplitAnswer.{SplitAnswer}
 use Rattle.delimiter.specs.declared.SplitAnswer.the-variants.{Items, Refused}
-use Rattle.delimiter.specs.Code.{CodeByte, Scan, scanFrom, scanAt}
-use Rattle.delimiter.specs.Bracket.{isBracket, isEmpty, topIs, Brackets, held, deep, wrong, push, taken}
 
 -- "separator comma or colon"
 abbrev pub separatorByte : Separator → ℕ

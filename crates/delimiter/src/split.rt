@@ -1,18 +1,17 @@
 // The split of a text at its top level: marks and separators, a segment, its item, the items one after the other.
-use crate::Bracket;
-use crate::Change;
-use crate::CommentStyle;
 use crate::NextItem;
-use crate::OpenBrackets;
 use crate::Segment;
 use crate::Separator;
 use crate::SplitAnswer;
 use crate::Turn;
-use crate::Unclosed;
-use crate::brackets;
-use crate::code;
 use ascii::Range;
 use ascii::class;
+use code::Bracket;
+use code::Change;
+use code::CommentStyle;
+use code::OpenBrackets;
+use code::Unclosed;
+use code::brackets;
 use refusal::Reason;
 use refusal::Refusal;
 use refusal::Verdict;
@@ -22,9 +21,9 @@ ghost use lib.ListN.{length, getD, set};
 ghost use Rattle.ascii.specs.declared.Range.{Range};
 ghost use mathlib.Core.List.{List, []};
 ghost use Rattle.refusal.specs.Answer.{Answer};
-ghost use Rattle.delimiter.specs.declared.CommentStyle.the-variants.{Block};
-ghost use Rattle.delimiter.specs.Code.{scanAt};
-ghost use Rattle.delimiter.specs.Bracket.{changed, Shows, Suits};
+ghost use Rattle.code.specs.declared.CommentStyle.the-variants.{Block};
+ghost use Rattle.code.specs.Code.{scanAt};
+ghost use Rattle.code.specs.Bracket.{changed, Shows, Suits};
 ghost use Rattle.delimiter.specs.Split.{separatorByte, nextSolid, solid as solidAfter, namesTemplate, angleOpened, angleClosed, isMark, bracketed, colonAt, turned, fresh, item, segment, splitFrom};
 ghost use Rattle.delimiter.specs.Cutting.{lastEnd, splitVerdict, Waits, remaining, cut, Cuts, onItem, Lies, laid, outcome, writtenBy};
 
@@ -43,13 +42,13 @@ fn next_solid(text: &[u8], from: usize) -> u8
     requires { ⌜ from ≤ length (now text) ⌝ }
     ensures { λ r. ⌜ r ≡ nextSolid (scanAt Block (now (text .entry)) from .codes) ⌝ }
 {
-    let mut i = code::next_code(text, from, CommentStyle::Block);
+    let mut i = code::code::next_code(text, from, CommentStyle::Block);
     while i < text.len() {
         let b = text[i];
         if !class::is_trimmed(b) {
             return b;
         }
-        i = code::next_code(text, i + 1, CommentStyle::Block);
+        i = code::code::next_code(text, i + 1, CommentStyle::Block);
     }
     0
 }
@@ -213,13 +212,13 @@ fn segment_end(text: &[u8], from: usize, before: u8, separator: Separator, angle
     let mut open = OpenBrackets::new();
     let mut ternary = 0;
     let mut previous = before;
-    let mut i = code::next_code(text, from, CommentStyle::Block);
+    let mut i = code::code::next_code(text, from, CommentStyle::Block);
     while i < text.len() {
         let at = i;
         let last = previous;
         let depth = open.depth;
         previous = solid(text[at], last);
-        i = code::next_code(text, at + 1, CommentStyle::Block);
+        i = code::code::next_code(text, at + 1, CommentStyle::Block);
         if is_mark(angles, text[at]) {
             let inner = open.closing[brackets::below(depth)];
             match change_at(text, at, angles, last, depth, inner) {
@@ -341,7 +340,7 @@ pub(crate) fn check(text: &[u8]) -> Verdict
 {
     match refusal::check_text(text) {
         Verdict::Bad(why) => Verdict::Bad(why),
-        Verdict::Fine => match code::first_unclosed(text, 0, CommentStyle::Block) {
+        Verdict::Fine => match code::code::first_unclosed(text, 0, CommentStyle::Block) {
             Unclosed::Nothing => Verdict::Fine,
             Unclosed::Quote(place) => Verdict::Bad(Refusal {
                 reason: Reason::UnclosedQuote,

@@ -3,7 +3,7 @@
 use borrow.Author.Needs.{needs}
 use borrow.Author.Tests.{eq-eqb, ne-eqb}
 use mathlib.Core.Path.{refl, sym, _∙_}
-use Rattle.delimiter.proofs.Stack.{sized-empty}
+use Rattle.code.proofs.Stack.{sized-empty}
 use Rattle.delimiter.proofs.split.angle_closed.Statement.{statement}
 use Rattle.delimiter.proofs.split.angle_closed.Tie as tie
 

@@ -6,9 +6,9 @@ use mathlib.Core.Bool.{_&&_, _||_}
 use mathlib.Core.List.{List}
 use Prim.Native.Nat.{ℕ}
 use lib.Dec.{eqb}
-use Rattle.delimiter.specs.Bracket.{isEmpty, topIs, Shows}
+use Rattle.code.specs.Bracket.{isEmpty, topIs, Shows}
+use Rattle.code.proofs.Stack.{sized-empty}
 use Rattle.delimiter.specs.Split.{namesTemplate}
-use Rattle.delimiter.proofs.Stack.{sized-empty}
 use Rattle.delimiter.proofs.split.angle_opened.Statement.{statement}
 use Rattle.delimiter.proofs.split.angle_opened.Tie as tie
 

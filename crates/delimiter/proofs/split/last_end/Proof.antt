@@ -3,7 +3,7 @@
 use mathlib.Core.Path.{refl, _∙_}
 use borrow.Author.Needs.{needs}
 use borrow.Author.Tests.{eq-eqb, ne-eqb}
-use Rattle.delimiter.proofs.Stack.{sized-empty}
+use Rattle.code.proofs.Stack.{sized-empty}
 use Rattle.delimiter.proofs.split.last_end.Statement.{statement}
 use Rattle.delimiter.proofs.split.last_end.Tie as tie
 

@@ -6,8 +6,8 @@ use mathlib.Core.Path.{_≡_, refl, sym, _∙_}
 use Prim.Native.Nat.{_-_, _≤_}
 use borrow.Author.Tests.{not-true, not-false}
 use lib.ListN.{length}
-use Rattle.delimiter.specs.declared.CommentStyle.the-variants.{Block}
-use Rattle.delimiter.specs.Code.{scanAt, onward}
+use Rattle.code.specs.declared.CommentStyle.the-variants.{Block}
+use Rattle.code.specs.Code.{scanAt, onward}
 use Rattle.delimiter.specs.Split.{nextSolid}
 use Rattle.delimiter.proofs.SplitLaws.{solid-here, solid-later, solid-none}
 use Rattle.delimiter.proofs.split.next_solid.Statement.{statement}

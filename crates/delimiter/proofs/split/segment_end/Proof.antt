@@ -6,11 +6,11 @@ use mathlib.Core.Path.{_≡_, refl, sym, ap, _∙_}
 use mathlib.Core.List.{List}
 use Prim.Native.Nat.{ℕ, _+_, _-_, _<_, _≤_}
 use lib.ListN.{length, getD, length-set}
-use Rattle.delimiter.specs.declared.CommentStyle.the-variants.{Block}
-use Rattle.delimiter.specs.Code.{scanAt, onward}
-use Rattle.delimiter.specs.Bracket.{openOf, changed, held}
+use Rattle.code.specs.declared.CommentStyle.the-variants.{Block}
+use Rattle.code.specs.Code.{scanAt, onward}
+use Rattle.code.specs.Bracket.{openOf, changed, held}
+use Rattle.code.proofs.Stack.{empty-open, shows-open, open-push, left-depth}
 use Rattle.delimiter.specs.Split.{nextSolid, bracketed, fresh, splitFrom}
-use Rattle.delimiter.proofs.Stack.{empty-open, shows-open, open-push, left-depth}
 use Rattle.delimiter.proofs.SplitLaws.{last-cuts, split-wrong, split-deep, split-mark, split-goes, split-ends, split-end}
 use Rattle.delimiter.proofs.split.segment_end.Statement.{statement}
 use Rattle.delimiter.proofs.split.segment_end.Tie as tie

@@ -1,0 +1,4 @@
+pub mod Laws
+pub mod Stack
+pub mod MatchLaws
+pub mod WalkLaws

@@ -1,0 +1,82 @@
+-- `code::quote_end` meets its contract: a turn passes over one byte, or two where the second is hidden, and the end that is left to find
+-- stays the same. Assumes nothing.
+use mathlib.Core.Path.{_≡_, refl, sym, _∙_}
+use Prim.Native.Nat.{_+_, _-_, _≤_}
+use native.Mathlib.Omega.{arith}
+use borrow.Author.Needs.{needs}
+use borrow.Author.Tests.{eq-eqb, ne-eqb}
+use lib.ListN.{length, drop}
+use Rattle.code.specs.Code.{more, literal}
+use Rattle.code.proofs.Laws.{literal-both, literal-closed, literal-plain, literal-end}
+use Rattle.code.proofs.code.quote_end.Statement.{statement}
+use Rattle.code.proofs.code.quote_end.Tie as tie
+
+abbrev Inv-loop : tie.InvT-loop
+Inv-loop text from q style i₀ i =
+    (from ≤ i) × (i ≤ length text + 1) × (more i (literal style q 0 (drop i text)) ≡ more from (literal style q 0 (drop from text)))
+
+abbrev μ-loop : tie.MeasureT-loop
+μ-loop text from q style i₀ i = length text - i
+
+loop-again : tie.Need-loop-again Inv-loop μ-loop
+loop-again c =
+    let d : tie.After-escapes Inv-loop μ-loop = c .before in
+    let l : tie.In-loop Inv-loop μ-loop = d .before .before in
+    let a = l .before .before .before .args in
+    let n = sym (d .escapes .ensures) ∙ c .if1 .taken in
+    (omega arith, omega arith, sym (literal-both (a .style) (a .q) (a .text .now) _ (l .loop-test .taken) (rw n refl)) ∙ l .before .loop .inv .2)
+
+returns : tie.Need-returns Inv-loop μ-loop
+returns c =
+    let b : tie.After-byte-at Inv-loop μ-loop = c .before in
+    let d : tie.After-escapes Inv-loop μ-loop = b .before .before .before in
+    let l : tie.In-loop Inv-loop μ-loop = d .before .before in
+    let a = l .before .before .before .args in
+    let n = sym (d .escapes .ensures) ∙ b .before .before .if1 .left in
+    let f = eq-eqb _ _ (b .before .if2 .taken) in
+    let g = ne-eqb _ _ (rw (b .byte-at .ensures) at (c .if3 .taken)) in
+    (sym (literal-closed (a .style) (a .q) (a .text .now) _ (l .loop-test .taken) (rw (n, f, g) refl) f) ∙ l .before .loop .inv .2, omega arith)
+
+loop-again-2 : tie.Need-loop-again-2 Inv-loop μ-loop
+loop-again-2 c =
+    let b : tie.After-byte-at Inv-loop μ-loop = c .before in
+    let d : tie.After-escapes Inv-loop μ-loop = b .before .before .before in
+    let l : tie.In-loop Inv-loop μ-loop = d .before .before in
+    let a = l .before .before .before .args in
+    let n = sym (d .escapes .ensures) ∙ b .before .before .if1 .left in
+    let f = eq-eqb _ _ (b .before .if2 .taken) in
+    let g = eq-eqb _ _ (sym (b .byte-at .ensures) ∙ c .if3 .left) in
+    (omega arith, omega arith, sym (literal-both (a .style) (a .q) (a .text .now) _ (l .loop-test .taken) (rw (n, f, g) refl)) ∙ l .before .loop .inv .2)
+
+loop-again-3 : tie.Need-loop-again-3 Inv-loop μ-loop
+loop-again-3 c =
+    let d : tie.After-escapes Inv-loop μ-loop = c .before .before in
+    let l : tie.In-loop Inv-loop μ-loop = d .before .before in
+    let a = l .before .before .before .args in
+    let n = sym (d .escapes .ensures) ∙ c .before .if1 .left in
+    let f = ne-eqb _ _ (c .if2 .left) in
+    (omega arith, omega arith, sym (literal-plain (a .style) (a .q) (a .text .now) _ (l .loop-test .taken) (rw (n, f) refl) f) ∙ l .before .loop .inv .2)
+
+pub quote-end-spec : {M : Type 1} → statement M
+quote-end-spec =
+    tie.close
+    (tie.spec
+    Inv-loop
+    μ-loop
+    (λ c. (omega arith, omega arith, refl))
+    (λ c. omega arith)
+    (λ c κs. search needs)
+    (λ c. omega arith)
+    (λ c. omega arith)
+    loop-again
+    (λ c. omega arith)
+    (λ c κs. search needs)
+    (λ c. omega arith)
+    returns
+    (λ c. omega arith)
+    (λ c. omega arith)
+    loop-again-2
+    (λ c. omega arith)
+    (λ c. omega arith)
+    loop-again-3
+    (λ c. (sym (literal-end _ _ _ _ (c .loop-test .left)) ∙ c .before .loop .inv .2, tt)))

@@ -1,0 +1,4 @@
+pub mod Code
+pub mod Bracket
+pub mod Matching
+pub mod Examples
