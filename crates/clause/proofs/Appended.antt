@@ -9,9 +9,9 @@ use native.Mathlib.Omega.{arith}
 use lib.ListN.{length, drop}
 use Rattle.refusal.specs.Answer.{given, admitted}
 use Rattle.refusal.proofs.Answers.{never, Keeps, keeps-admitted, keeps-then}
-use Rattle.delimiter.specs.declared.Match.{Match}
-use Rattle.delimiter.specs.declared.Match.the-variants.{ClosedAt, Unmatched, DeepAt}
-use Rattle.delimiter.specs.Matching.{matching}
+use Rattle.code.specs.declared.Match.{Match}
+use Rattle.code.specs.declared.Match.the-variants.{ClosedAt, Unmatched, DeepAt}
+use Rattle.code.specs.Matching.{matching}
 use Rattle.lexer.specs.declared.Skipped.{Skipped}
 use Rattle.lexer.specs.declared.Skipped.the-variants.{Past, OpenAt}
 use Rattle.lexer.specs.Trivia.{skip}

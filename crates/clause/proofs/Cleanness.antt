@@ -9,13 +9,13 @@ use native.Mathlib.Omega.{arith}
 use lib.ListN.{length, drop}
 use lib.Dec.{eqb}
 use Rattle.ascii.specs.Text.{starts}
-use Rattle.delimiter.specs.declared.Match.{Match}
-use Rattle.delimiter.specs.declared.Match.the-variants.{ClosedAt, Unmatched, DeepAt}
-use Rattle.delimiter.specs.declared.Unclosed.the-variants.{Nothing}
-use Rattle.delimiter.specs.Code.{Scan, scanAt}
-use Rattle.delimiter.specs.Matching.{matching}
-use Rattle.delimiter.proofs.Laws.{scan-end}
-use Rattle.delimiter.proofs.WalkLaws.{clean-behind}
+use Rattle.code.specs.declared.Match.{Match}
+use Rattle.code.specs.declared.Match.the-variants.{ClosedAt, Unmatched, DeepAt}
+use Rattle.code.specs.declared.Unclosed.the-variants.{Nothing}
+use Rattle.code.specs.Code.{Scan, scanAt}
+use Rattle.code.specs.Matching.{matching}
+use Rattle.code.proofs.Laws.{scan-end}
+use Rattle.code.proofs.WalkLaws.{clean-behind}
 use Rattle.lexer.specs.declared.Skipped.{Skipped}
 use Rattle.lexer.specs.declared.Skipped.the-variants.{Past, OpenAt}
 use Rattle.lexer.specs.Trivia.{skip}

@@ -11,16 +11,16 @@ use borrow.Author.Tests.{eqb-true, eqb-false}
 use Rattle.ascii.specs.Ascii.{isWord}
 use Rattle.ascii.specs.Text.{starts}
 use Rattle.ascii.proofs.Texts.{leading-le}
-use Rattle.delimiter.specs.declared.CommentStyle.{CommentStyle}
-use Rattle.delimiter.specs.declared.Match.{Match}
-use Rattle.delimiter.specs.declared.Match.the-variants.{ClosedAt, Unmatched, DeepAt}
-use Rattle.delimiter.specs.declared.Piece.{Piece}
-use Rattle.delimiter.specs.declared.Piece.the-variants.{Code, Hidden, OpenQuote, OpenComment}
-use Rattle.delimiter.specs.declared.Unclosed.{Unclosed}
-use Rattle.delimiter.specs.declared.Unclosed.the-variants.{Nothing, Quote, Comment}
-use Rattle.delimiter.specs.Code.{CodeByte, Scan, piece, rest, placed, scanFrom}
-use Rattle.delimiter.specs.Bracket.{isEmpty, Brackets, held, deep as tooDeep, wrong, taken}
-use Rattle.delimiter.specs.Matching.{matched, matchFrom, unlessOpen, matching}
+use Rattle.code.specs.declared.CommentStyle.{CommentStyle}
+use Rattle.code.specs.declared.Match.{Match}
+use Rattle.code.specs.declared.Match.the-variants.{ClosedAt, Unmatched, DeepAt}
+use Rattle.code.specs.declared.Piece.{Piece}
+use Rattle.code.specs.declared.Piece.the-variants.{Code, Hidden, OpenQuote, OpenComment}
+use Rattle.code.specs.declared.Unclosed.{Unclosed}
+use Rattle.code.specs.declared.Unclosed.the-variants.{Nothing, Quote, Comment}
+use Rattle.code.specs.Code.{CodeByte, Scan, piece, rest, placed, scanFrom}
+use Rattle.code.specs.Bracket.{isEmpty, Brackets, held, deep as tooDeep, wrong, taken}
+use Rattle.code.specs.Matching.{matched, matchFrom, unlessOpen, matching}
 use Rattle.lexer.specs.declared.Skipped.{Skipped}
 use Rattle.lexer.specs.declared.Skipped.the-variants.{Past, OpenAt}
 use Rattle.lexer.specs.Trivia.{skip}

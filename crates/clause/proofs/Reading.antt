@@ -21,11 +21,11 @@ use Rattle.refusal.specs.declared.Refusal.{Refusal}
 use Rattle.refusal.specs.Table.{numberOf}
 use Rattle.refusal.specs.Answer.{Answer, given, refusedBy, unlessFault}
 use Rattle.refusal.proofs.Answers.{never}
-use Rattle.delimiter.specs.declared.CommentStyle.{CommentStyle}
-use Rattle.delimiter.specs.declared.CommentStyle.the-variants.{CLike, Fortran}
-use Rattle.delimiter.specs.declared.Match.{Match}
-use Rattle.delimiter.specs.declared.Match.the-variants.{ClosedAt}
-use Rattle.delimiter.specs.Matching.{matching}
+use Rattle.code.specs.declared.CommentStyle.{CommentStyle}
+use Rattle.code.specs.declared.CommentStyle.the-variants.{CLike, Fortran}
+use Rattle.code.specs.declared.Match.{Match}
+use Rattle.code.specs.declared.Match.the-variants.{ClosedAt}
+use Rattle.code.specs.Matching.{matching}
 use Rattle.lexer.specs.declared.Skipped.{Skipped}
 use Rattle.lexer.specs.declared.Skipped.the-variants.{Past, OpenAt}
 use Rattle.lexer.specs.Trivia.{skip}

@@ -13,9 +13,9 @@ use Rattle.ascii.specs.Text.{starts, padded}
 use Rattle.refusal.specs.declared.Refusal.{Refusal}
 use Rattle.refusal.specs.Table.{numberOf}
 use Rattle.refusal.specs.Answer.{Answer, given, refused, refusedBy}
-use Rattle.delimiter.specs.declared.Match.{Match}
-use Rattle.delimiter.specs.declared.Match.the-variants.{ClosedAt, Unmatched, DeepAt}
-use Rattle.delimiter.specs.Matching.{matching}
+use Rattle.code.specs.declared.Match.{Match}
+use Rattle.code.specs.declared.Match.the-variants.{ClosedAt, Unmatched, DeepAt}
+use Rattle.code.specs.Matching.{matching}
 use Rattle.lexer.specs.declared.Skipped.{Skipped}
 use Rattle.lexer.specs.declared.Skipped.the-variants.{Past, OpenAt}
 use Rattle.lexer.specs.Trivia.{skip}

@@ -11,9 +11,9 @@ use lib.Dec.{eqb}
 use Rattle.ascii.specs.Text.{starts}
 use Rattle.refusal.specs.Answer.{Answer, given, refused}
 use Rattle.refusal.proofs.Answers.{never}
-use Rattle.delimiter.specs.declared.Match.{Match}
-use Rattle.delimiter.specs.declared.Match.the-variants.{ClosedAt, Unmatched, DeepAt}
-use Rattle.delimiter.specs.Matching.{matching}
+use Rattle.code.specs.declared.Match.{Match}
+use Rattle.code.specs.declared.Match.the-variants.{ClosedAt, Unmatched, DeepAt}
+use Rattle.code.specs.Matching.{matching}
 use Rattle.lexer.specs.declared.Skipped.{Skipped}
 use Rattle.lexer.specs.declared.Skipped.the-variants.{Past, OpenAt}
 use Rattle.lexer.specs.Trivia.{skip}

@@ -8,11 +8,11 @@ use lib.Dec.{eqb}
 use Rattle.ascii.specs.Ascii.{isWord}
 use Rattle.ascii.specs.Text.{starts, leading, trimmed}
 use Rattle.ascii.specs.declared.Range.{Range}
-use Rattle.delimiter.specs.declared.CommentStyle.{CommentStyle}
-use Rattle.delimiter.specs.declared.CommentStyle.the-variants.{CLike, Fortran}
-use Rattle.delimiter.specs.declared.Match.{Match}
-use Rattle.delimiter.specs.declared.Match.the-variants.{ClosedAt, Unmatched, DeepAt}
-use Rattle.delimiter.specs.Matching.{matching}
+use Rattle.code.specs.declared.CommentStyle.{CommentStyle}
+use Rattle.code.specs.declared.CommentStyle.the-variants.{CLike, Fortran}
+use Rattle.code.specs.declared.Match.{Match}
+use Rattle.code.specs.declared.Match.the-variants.{ClosedAt, Unmatched, DeepAt}
+use Rattle.code.specs.Matching.{matching}
 use Rattle.lexer.specs.declared.Skipped.{Skipped}
 use Rattle.lexer.specs.declared.Skipped.the-variants.{Past, OpenAt}
 use Rattle.lexer.specs.Trivia.{skip}

@@ -14,8 +14,8 @@ use Rattle.refusal.specs.declared.Verdict.the-variants.{Fine, Bad}
 use Rattle.refusal.specs.Table.{numberOf}
 use Rattle.refusal.specs.Answer.{Answer, given, refusedBy, andThen, unlessFault, admitted, slots, maxLength}
 use Rattle.refusal.specs.Verdict.{textVerdict}
-use Rattle.delimiter.specs.declared.Unclosed.the-variants.{Nothing}
-use Rattle.delimiter.specs.Code.{scanAt}
+use Rattle.code.specs.declared.Unclosed.the-variants.{Nothing}
+use Rattle.code.specs.Code.{scanAt}
 use Rattle.lexer.specs.declared.Skipped.{Skipped}
 use Rattle.lexer.specs.declared.Skipped.the-variants.{Past, OpenAt}
 use Rattle.lexer.specs.Trivia.{skip}

@@ -5,8 +5,8 @@ use crate::ClauseWord;
 use crate::Separation;
 use ascii::ByteSet;
 use bookform::ClauseRule;
-use delimiter::CommentStyle;
-use delimiter::Match;
+use code::CommentStyle;
+use code::Match;
 use lexer::Skipped;
 use refusal::Reason;
 use refusal::Refusal;
@@ -17,7 +17,7 @@ ghost use mathlib.Core.Option.{none};
 ghost use Prim.Native.Nat.{suc, _≤_, _<_};
 ghost use lib.ListN.{length, drop};
 ghost use Rattle.refusal.specs.Answer.{maxLength};
-ghost use Rattle.delimiter.specs.Matching.{matching};
+ghost use Rattle.code.specs.Matching.{matching};
 ghost use Rattle.lexer.specs.Trivia.{skip};
 ghost use Rattle.rulebook.specs.Book.{bookOf, headerOf};
 ghost use Rattle.rulebook.specs.Check.{bookFault};
@@ -78,7 +78,7 @@ fn closed(text: &[u8], word: ClauseWord, open: usize, fortran: bool, clean: usiz
         (matching (style (flagBook fortran) (now (text .entry))) (suc «open») (drop (suc «open») (now (text .entry)))) ⌝ }
 {
     let inner = open + 1;
-    match delimiter::walk::match_from(text, inner, style_of(fortran), clean) {
+    match code::walk::match_from(text, inner, style_of(fortran), clean) {
         Match::ClosedAt(close) => {
             let content = ascii::trim_between(text, inner, close);
             ClauseRead::Clause(

@@ -13,7 +13,7 @@ use lib.Seq.{drop-cons, drop-drop, getD-drop}
 use lib.Dec.{eqb, ltb}
 use Rattle.ascii.specs.Ascii.{isSpace}
 use Rattle.ascii.specs.Text.{upTo}
-use Rattle.delimiter.specs.Code.{blockEnd, more}
+use Rattle.code.specs.Code.{blockEnd, more}
 use Rattle.lexer.specs.declared.Stretch.the-variants.{Run, Open}
 use Rattle.lexer.specs.declared.Skipped.the-variants.{Past, OpenAt}
 use Rattle.lexer.specs.Continuation.{breakC, breakF}

@@ -7,7 +7,7 @@ use lib.ListN.{drop, getD}
 use lib.Dec.{eqb, ltb}
 use Rattle.ascii.specs.Ascii.{isSpace}
 use Rattle.ascii.specs.Text.{upTo}
-use Rattle.delimiter.specs.Code.{blockEnd}
+use Rattle.code.specs.Code.{blockEnd}
 use Rattle.lexer.specs.declared.Stretch.{Stretch}
 use Rattle.lexer.specs.declared.Stretch.the-variants.{Run, Open}
 use Rattle.lexer.specs.declared.Skipped.{Skipped}

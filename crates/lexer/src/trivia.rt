@@ -2,12 +2,12 @@
 use crate::Skipped;
 use crate::Stretch;
 use crate::continuation;
-use delimiter::End;
+use code::End;
 ghost use mathlib.Core.Path.{_≡_};
 ghost use Prim.Native.Nat.{_+_, _<_, _≤_};
 ghost use lib.ListN.{length, drop};
 ghost use Rattle.ascii.specs.Text.{upTo};
-ghost use Rattle.delimiter.specs.Code.{blockEnd};
+ghost use Rattle.code.specs.Code.{blockEnd};
 ghost use Rattle.lexer.specs.Trivia.{closed, isLineFeed, triviaC, triviaF, triviaOf, skip as skipOf, Inside, Fits};
 
 // The end of a line comment, from a place inside it: LF is its last byte.
@@ -32,7 +32,7 @@ fn block_comment(text: &[u8], at: usize) -> Stretch
     ensures { λ r. ⌜ r ≡ closed (blockEnd (drop (at + 2) (now (text .entry)))) ⌝ }
     ensures { λ r. ⌜ Fits at (length (now (text .entry))) r ⌝ }
 {
-    match delimiter::code::block_end(text, at + 2) {
+    match code::code::block_end(text, at + 2) {
         End::Before(end) => Stretch::Run(end - at),
         End::Never => Stretch::Open,
     }

@@ -8,9 +8,9 @@ use lib.ListN.{length, replicate}
 use Rattle.ascii.specs.Text.{bytes, leading, upTo, trimmed, sameBy, begins, firstHigh}
 use Rattle.refusal.specs.Answer.{Answer, given, refused}
 use Rattle.delimiter.specs.declared.Separator.the-variants.{Comma, Colon}
-use Rattle.delimiter.specs.Code.{literal, blockEnd, piece, scanFrom}
-use Rattle.delimiter.specs.Bracket.{taken}
-use Rattle.delimiter.specs.Matching.{matchFrom, matching}
+use Rattle.code.specs.Code.{literal, blockEnd, piece, scanFrom}
+use Rattle.code.specs.Bracket.{taken}
+use Rattle.code.specs.Matching.{matchFrom, matching}
 use Rattle.delimiter.specs.Split.{nextSolid, bracketed, turned, splitFrom, split, flat, SplitCall, splitCall}
 use Rattle.lexer.specs.declared.Language.{Language}
 use Rattle.lexer.specs.declared.Language.the-variants.{C, FortranFree}

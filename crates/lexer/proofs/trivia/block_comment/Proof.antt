@@ -5,8 +5,8 @@ use Prim.Native.Nat.{_+_}
 use native.Mathlib.Omega.{arith}
 use lib.ListN.{length, drop}
 use borrow.Author.Needs.{needs}
-use Rattle.delimiter.specs.declared.End.the-variants.{Before}
-use Rattle.delimiter.specs.Code.{blockEnd, endOf, Ends}
+use Rattle.code.specs.declared.End.the-variants.{Before}
+use Rattle.code.specs.Code.{blockEnd, endOf, Ends}
 use Rattle.lexer.proofs.Skipping.{closed-some, closed-none}
 use Rattle.lexer.proofs.trivia.block_comment.Statement.{statement}
 use Rattle.lexer.proofs.trivia.block_comment.Tie as tie

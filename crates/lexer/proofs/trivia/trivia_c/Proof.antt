@@ -10,7 +10,7 @@ use borrow.Author.Needs.{needs}
 use borrow.Author.Tests.{lt-ltb, le-ltb, eqb-true}
 use Rattle.ascii.specs.Text.{upTo}
 use Rattle.ascii.proofs.Flags.{and-right}
-use Rattle.delimiter.specs.Code.{blockEnd}
+use Rattle.code.specs.Code.{blockEnd}
 use Rattle.lexer.specs.declared.Stretch.the-variants.{Run}
 use Rattle.lexer.specs.Trivia.{closed, isLineFeed, triviaC}
 use Rattle.lexer.proofs.Laws.{inside}
