@@ -8,5 +8,6 @@ pub mod Headed
 pub mod Settled
 pub mod Sharing
 pub mod Arrays
+pub mod Locals
 pub mod Alike
 pub mod Counting

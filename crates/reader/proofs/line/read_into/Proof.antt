@@ -17,8 +17,8 @@ use prog.Wp.{Heap, Calls, Loops, WpFn, Tables}
 use ghost.Atoms.{Atoms, sem}
 use contract.Monad.{Fun, fact}
 use contract.Running.{givenOf, tables, tablesOf}
-use types.Kit.{Given, ‵, raw, some, later, _⊛_, ⋆, _$_, _∵_, !, qed, by, move, keep, drop, group, use0, use1, use2, use3, split, join, pick, rewrite, fsplit, fjoin, feqL, suffices, frame, await, done}
-use types.Run.{look, init, forget, stop, hop, fld, from, load, lit, addr, and-then, no-more, assigns, land, returns, enter, alloc1, alloc0, params1, pass1, pass0, free1, free0}
+use types.Kit.{Given, Item, Goal, Soaks, Seq, Sq, prop, ‵, raw, some, later, _⊛_, ⋆, _$_, _∵_, !, qed, by, move, keep, drop, group, use0, use1, use2, use3, split, join, pick, rewrite, fsplit, fjoin, feqL, suffices, frame, await, done}
+use types.Run.{look, init, stop, hop, fld, from, load, lit, addr, and-then, no-more, assigns, land, returns, enter, params1, pass1, pass0}
 use types.Part.{agg, rep, whole, sub, look-in}
 use types.SemTy.{cells, Arr}
 use types.Share.{arr-parts}
@@ -57,6 +57,7 @@ use Rattle.reader.specs.declared.LineAnswer.{LineAnswer}
 use Rattle.reader.specs.Calls.{lineGives, lineWithin}
 use Rattle.reader.specs.Steps.{answered, HeadGives}
 use Rattle.clause.proofs.Lending.{Outstanding, lent-on, had-again}
+use Rattle.reader.proofs.Locals.{allocs-all, plant, frees-behind}
 use Rattle.reader.proofs.Sharing.{Withheld, shared-on, unshared}
 use Rattle.reader.proofs.Settled.{started-for, line-settles}
 use Rattle.lexer.proofs.Language as LG
@@ -252,9 +253,8 @@ module _ {M : Type 1} (𝓤 : URA M) (H : Heap 𝓤) (A : Atoms 𝓤) (W : Given
   Whole r T₂ M₂ R₂ = record { answer = lineGives r; text = T₂; map = M₂; records = R₂ } ≡ lineWithin l p bk ln (length ts) (length ms) k (length (xr .now))
 
   exits : (r : LineAnswer) (w : Val) (T₂ M₂ : List ℕ) (R₂ : List ClauseRecord) → Whole r T₂ M₂ R₂ → length T₂ ≡ length ts → length M₂ ≡ length ms → length R₂ ≡ length (xr .now)
-      → ent 𝓤 (⋆ 𝓤 H A (‵ (flft κb qb) ∷ ‵ (flft κn qn) ∷ ‵ (flft κt qt) ∷ ‵ (flft κm qm) ∷ ‵ (flft κr qr) ∷ ‵ (finally u8 γt T₂) ∷ ‵ (finally u16 γm M₂) ∷ ‵ (finally T.the-row (xr .name) R₂) ∷ ‵ (LA.the-row .own r (w ∷ [])) ∷ [])) (Post w)
+      → Sq W (‵ (flft κb qb) ∷ ‵ (flft κn qn) ∷ ‵ (flft κt qt) ∷ ‵ (flft κm qm) ∷ ‵ (flft κr qr) ∷ ‵ (finally u8 γt T₂) ∷ ‵ (finally u16 γm M₂) ∷ ‵ (finally T.the-row (xr .name) R₂) ∷ ‵ (LA.the-row .own r (w ∷ [])) ∷ []) (prop (Post w))
   exits r w T₂ M₂ R₂ e lT lM lR =
-      qed W (‵ (flft κb qb) ∷ ‵ (flft κn qn) ∷ ‵ (flft κt qt) ∷ ‵ (flft κm qm) ∷ ‵ (flft κr qr) ∷ ‵ (finally u8 γt T₂) ∷ ‵ (finally u16 γm M₂) ∷ ‵ (finally T.the-row (xr .name) R₂) ∷ ‵ (LA.the-row .own r (w ∷ [])) ∷ []) ∵
       suffices ! _ (ends-at 𝓤 H A f.ended stayed (f.clauses 𝓤 H A mem″ run) W (((κb, (κn, (κt, (κm, (κr, tt))))), (qb, (qn, (qt, (qm, (qr, tt))))), tt, a, vals), tt) w r (tt, (tt, (tt, (tt, (T₂, (M₂, (tt, (R₂, tt)))))))) (tt, (tt, (tt, (tt, (lT, (lM, (tt, (lR, tt))))))))) $
       says ! e $ nothing ! $ move ! (5 ∷ 0 ∷ []) $ join ! $ move ! (4 ∷ 0 ∷ []) $ join ! $ move ! (3 ∷ 0 ∷ []) $ join ! $ move ! (2 ∷ 0 ∷ []) $ join ! $ move ! (1 ∷ 0 ∷ []) $ join ! $ frame ! $ nothing ! $ move ! (3 ∷ 0 ∷ []) $ fjoin ! $ nothing ! $ fjoin ! $ move ! (2 ∷ 0 ∷ []) $ fjoin ! $ move ! (1 ∷ 0 ∷ []) $ fjoin ! $ nothing ! $ fjoin ! $ nothing ! $ fjoin ! $ nothing ! $ fjoin ! $ nothing ! $ fjoin ! $ frame ! $ done !
 
@@ -282,14 +282,160 @@ module _ {M : Type 1} (𝓤 : URA M) (H : Heap 𝓤) (A : Atoms 𝓤) (W : Given
       line-settles l p bk ln k (length (xr .now)) T M T₂ M₂ us h a r e (e₄ ∙ ap (λ (t : List ℕ). settled (length (xr .now)) (readOn bk t s)) e₂ ∙ ap (λ (z : SequenceState). settled (length (xr .now)) (readOn bk (take (h .length) T) z)) e₃) (e₅ .0) (e₅ .1 .0) (e₅ .1 .1)
       ∙ ap (λ (n : ℕ). lineWithin l p bk ln n (length M) k (length (xr .now))) lT ∙ ap (λ (n : ℕ). lineWithin l p bk ln (length ts) n k (length (xr .now))) lM
 
+  -- the tokens at entry, and what the parameters own
+  abbrev Tokens : Item 𝓤
+  Tokens = ‵ (flft κb qb) ⊛ (‵ (flft κn qn) ⊛ (‵ (flft κt qt) ⊛ (‵ (flft κm qm) ⊛ (‵ (flft κr qr) ⊛ ‵ ftrue))))
+
+  abbrev Owned : Item 𝓤
+  Owned = ‵ (owns (LG.the-row ∷ PX.the-row ∷ ShrSlice (named 0) κb u8 ∷ ShrSlice (named 1) κn u8 ∷ MutSlice (named 2) κt u8 ∷ MutSlice (named 3) κm u16 ∷ usize ∷ MutSlice (named 4) κr T.the-row ∷ []) a vals)
+
+  -- text and map as they are had at a list, and the index while it is lent
+  abbrev Text : List ℕ → Item 𝓤
+  Text T = ‵ (MutSlice (named 2) κt u8 .own (xt γt T) (st ∷ []))
+
+  abbrev Map : List ℕ → Item 𝓤
+  Map M = ‵ (MutSlice (named 3) κm u16 .own (xm γm M) (sm ∷ []))
+
+  abbrev HeadIs : Head → Val → Item 𝓤
+  HeadIs h w = ‵ (HD.the-row .own h (w ∷ []))
+
+  abbrev IndexShared : ℕ → ℕ → List ℕ → Item 𝓤
+  IndexShared i ν I = ‵ (flent (ν ∷ []) (arr-parts (shares u32) (length I) .part fullShare I i 0))
+
+  abbrev Records : List ClauseRecord → Item 𝓤
+  Records us = ‵ (finally T.the-row (xr .name) us)
+
+  long : (I : List ℕ) → length I ≡ length zeros → length I ≡ 1024
+  long I e = e ∙ zeros-fresh .long
+
+  -- what comes before each call and after it, over whatever else the context has
+  module _ {K : Type 0} {Γ : List (Item 𝓤)} {G : Goal 𝓤 H} where
+    -- the index is lent for `read_head`, and text and map are lent on
+    lends-head : K → Soaks G → (i : ℕ)
+        → ((ν₀ : ℕ) (δ₀ : GName) (ν₁ : ℕ) (δ₁ : GName) (ν₂ : ℕ) (δ₂ : GName)
+        → Seq K W (raw (ReadHead 𝓤 H A mem″ run .pre (to-head i ν₀ δ₀ ν₁ δ₁ ν₂ δ₂)) ∷ ‵ (Outstanding u16 κm (ν₂ ∷ []) qm γm bm om δ₂ ms) ∷ ‵ (Outstanding u8 κt (ν₁ ∷ []) qt γt bt ot δ₁ ts) ∷ ‵ (flent (ν₀ ∷ []) (Held u32 (length zeros) i 0 δ₀)) ∷ ‵ Own-b ∷ ‵ (flft κr qr) ∷ ‵ Own-r ∷ Γ) G)
+        → Sq W (‵ (fat fullShare index-ty i 0 blank) ∷ ‵ (Index .own zeros (blank ∷ [])) ∷ Tokens ∷ Owned ∷ Γ) G
+    lends-head t z i k′ =
+        use2 W (‵ (cells (mem u32) zeros i 0)) (index-laid 𝓤 H A W zeros blank i) $
+        move ! (2 ∷ []) $ fsplit ! $ move ! (1 ∷ []) $ fsplit ! $ move ! (1 ∷ []) $ fsplit ! $ move ! (1 ∷ []) $ fsplit ! $ move ! (1 ∷ []) $ fsplit ! $ move ! (1 ∷ []) $ fsplit ! $ move ! (1 ∷ []) $ fsplit ! $ move ! (1 ∷ []) $ fsplit ! $
+        move ! (10 ∷ []) $ split ! $ move ! (1 ∷ []) $ split ! $ move ! (1 ∷ []) $ split ! $ move ! (1 ∷ []) $ split ! $ move ! (1 ∷ []) $ split ! $
+        -- [tr; true; tm; tt; tn; tb; records; true; slots; map; text; line; book; prefix; language; index; …]
+        lft-new ! z (λ ν₀. move ! (16 ∷ []) $
+        use1 W (later (some (λ (δ₀ : GName). ‵ (MutSlice (named 1) (ν₀ ∷ []) u32 .own (lent-at i δ₀ zeros) (sliceVal (i, 0) (length zeros) ∷ [])) ⊛ ‵ (flent (ν₀ ∷ []) (Held u32 (length zeros) i 0 δ₀))))) (lends-slice 𝓤 H A W u32 (named 1) (ν₀ ∷ []) zeros i 0 (index-room zeros (zeros-fresh .long))) $
+        await ! z $ pick ! (λ δ₀. split ! $ rewrite ! 0 (λ (n : ℕ). ‵ (MutSlice (named 1) (ν₀ ∷ []) u32 .own (lent-at i δ₀ zeros) (sliceVal (i, 0) n ∷ []))) (zeros-fresh .long) refl $
+        lft-new ! z (λ ν₁. move ! (14 ∷ 7 ∷ []) $
+        use2 W (later (some (λ (δ₁ : GName). ‵ (MutSlice (named 2) (ν₁ ∷ []) u8 .own (xt δ₁ ts) (st ∷ [])) ⊛ ‵ (Outstanding u8 κt (ν₁ ∷ []) qt γt bt ot δ₁ ts)))) (lent-on u8 κt (ν₁ ∷ []) qt γt bt ot 𝓤 H A W (named 2) (named 2) ts) $
+        await ! z $ pick ! (λ δ₁. split ! $ lft-new ! z (λ ν₂. move ! (15 ∷ 9 ∷ []) $
+        use2 W (later (some (λ (δ₂ : GName). ‵ (MutSlice (named 3) (ν₂ ∷ []) u16 .own (xm δ₂ ms) (sm ∷ [])) ⊛ ‵ (Outstanding u16 κm (ν₂ ∷ []) qm γm bm om δ₂ ms)))) (lent-on u16 κm (ν₂ ∷ []) qm γm bm om 𝓤 H A W (named 3) (named 3) ms) $
+        await ! z $ pick ! (λ δ₂. split ! $ move ! (17 ∷ []) $ use1 W (‵ Own-b ⊛ ‵ Own-b) (shr-slice-copy 𝓤 H A W (named 0) κb u8 .twice xb (sb ∷ [])) $ split ! $
+        move ! (14 ∷ 10 ∷ 13 ∷ 7 ∷ 4 ∷ 20 ∷ 19 ∷ 0 ∷ 8 ∷ 18 ∷ 5 ∷ 2 ∷ 17 ∷ []) $ group ! 13 $ use1 W (raw (ReadHead 𝓤 H A mem″ run .pre (to-head i ν₀ δ₀ ν₁ δ₁ ν₂ δ₂))) (goes-head i ν₀ δ₀ ν₁ δ₁ ν₂ δ₂) $
+        -- [pre; book′; mapKept; textKept; lent; tr; true; records; true; …]
+        move ! (6 ∷ 8 ∷ 0 ∷ 2 ∷ 3 ∷ 4 ∷ 1 ∷ []) $ drop ! $ drop ! $ by ! (k′ ν₀ δ₀ ν₁ δ₁ ν₂ δ₂ .prf)))))))
+
+    -- the lifetimes are ended; text, map and the index's numbers are had again
+    after-head : K → Soaks G → (i ν₀ : ℕ) (δ₀ : GName) (ν₁ : ℕ) (δ₁ : GName) (ν₂ : ℕ) (δ₂ : GName) (w : Val)
+        → ((h : Head) (I T M : List ℕ) → Began h I T M → length I ≡ length zeros → length T ≡ length ts → length M ≡ length ms → Is HD.the-row h (w ∷ [])
+        → Seq K W (HeadIs h w ∷ ‵ (cells (mem u32) I i 0) ∷ Map M ∷ ‵ (flft κm qm) ∷ Text T ∷ ‵ (flft κt qt) ∷ ‵ (flft κn qn) ∷ ‵ (flft κb qb) ∷ Γ) G)
+        → Sq W (raw (ReadHead 𝓤 H A mem″ run .post (to-head i ν₀ δ₀ ν₁ δ₁ ν₂ δ₂) w) ∷ ‵ (Outstanding u16 κm (ν₂ ∷ []) qm γm bm om δ₂ ms) ∷ ‵ (Outstanding u8 κt (ν₁ ∷ []) qt γt bt ot δ₁ ts) ∷ ‵ (flent (ν₀ ∷ []) (Held u32 (length zeros) i 0 δ₀)) ∷ Γ) G
+    after-head t z i ν₀ δ₀ ν₁ δ₁ ν₂ δ₂ w k′ =
+        use1 W (later (some (λ (h : Head). ((‵ (flft κb qb) ⊛ (‵ (flft (ν₀ ∷ []) fullShare) ⊛ (‵ (flft κn qn) ⊛ (‵ (flft (ν₁ ∷ []) fullShare) ⊛ (‵ (flft (ν₂ ∷ []) fullShare) ⊛ ‵ ftrue))))) ⊛ HeadIs h w) ⊛ raw (ensured 𝓤 H A rh.ended (rh.clauses 𝓤 H A mem″ run) (κb, (ν₀ ∷ [], (κn, (ν₁ ∷ [], (ν₂ ∷ [], tt))))) (l, (p, (xb, (lent-at i δ₀ zeros, (xn, (xt δ₁ ts, (xm δ₂ ms, (k, tt)))))))) tt h)))) (id⊢ 𝓤 _) $ await ! z $ pick ! (λ h.
+        split ! $ move ! (1 ∷ []) $
+        use1 W (some (λ (zs : Unit {0} × (Unit {0} × (Unit {0} × (List ℕ × (Unit {0} × (List ℕ × (List ℕ × (Unit {0} × Unit {0})))))))). ‵ (lasts rh.ended (κb, (ν₀ ∷ [], (κn, (ν₁ ∷ [], (ν₂ ∷ [], tt))))) (l, (p, (xb, (lent-at i δ₀ zeros, (xn, (xt δ₁ ts, (xm δ₂ ms, (k, tt)))))))) zs) ⊛ raw (fact 𝓤 (Began h (zs .1 .1 .1 .0) (zs .1 .1 .1 .1 .1 .0) (zs .1 .1 .1 .1 .1 .1 .0))))) (id⊢ 𝓤 _) $ pick ! (λ zs.
+        split ! $ move ! (1 ∷ []) $ heard ! (Began h (zs .1 .1 .1 .0) (zs .1 .1 .1 .1 .1 .0) (zs .1 .1 .1 .1 .1 .1 .0)) (λ e. fsplit ! $ drop ! $ fsplit ! $ drop ! $ fsplit ! $ drop ! $ fsplit ! $ fsplit ! $ move ! (1 ∷ []) $ feqL ! (λ lenI.
+        move ! (1 ∷ []) $ fsplit ! $ drop ! $ fsplit ! $ fsplit ! $ move ! (1 ∷ []) $ feqL ! (λ lenT. move ! (1 ∷ []) $ fsplit ! $ fsplit ! $ move ! (1 ∷ []) $ feqL ! (λ lenM.
+        move ! (4 ∷ []) $ split ! $ split ! $ move ! (1 ∷ []) $ split ! $ move ! (1 ∷ []) $ split ! $ move ! (1 ∷ []) $ split ! $ move ! (1 ∷ []) $ split ! $ move ! (6 ∷ []) $
+        -- [head; ν₂; true; ν₁; tn; ν₀; tb; lastM; true; lastT; lastI; mapKept; textKept; lent; …]
+        peeks ! HD.the-row (Is HD.the-row) (shows 𝓤 H A HD.the-row) h (w ∷ []) (λ is-h.
+        move ! (3 ∷ []) $ lft-end ! z $ move ! (0 ∷ 12 ∷ 9 ∷ []) $
+        use3 W (later (Text (zs .1 .1 .1 .1 .1 .0) ⊛ ‵ (flft κt qt))) (had-again u8 κt (ν₁ ∷ []) qt γt bt ot 𝓤 H A W (named 2) (named 2) ts δ₁ (zs .1 .1 .1 .1 .1 .0) room-t lenT) $
+        await ! z $ split ! $ move ! (3 ∷ []) $ lft-end ! z $ move ! (0 ∷ 11 ∷ 8 ∷ []) $
+        use3 W (later (Map (zs .1 .1 .1 .1 .1 .1 .0) ⊛ ‵ (flft κm qm))) (had-again u16 κm (ν₂ ∷ []) qm γm bm om 𝓤 H A W (named 3) (named 3) ms δ₂ (zs .1 .1 .1 .1 .1 .1 .0) room-m lenM) $
+        await ! z $ split ! $ move ! (7 ∷ []) $ lft-end ! z $ move ! (0 ∷ 11 ∷ 10 ∷ []) $
+        use3 W (later (‵ (Arr (mem u32) (length zeros) .lies (zs .1 .1 .1 .0) i 0))) (slice-back 𝓤 H A W u32 (ν₀ ∷ []) δ₀ (zs .1 .1 .1 .0) (length zeros) i 0) $ await ! z $ fsplit ! $ drop ! $
+        -- [index; map; tm; text; tt; head; true; tn; tb; true; …]
+        move ! (6 ∷ 9 ∷ 5 ∷ []) $ drop ! $ drop ! $ by ! (k′ h (zs .1 .1 .1 .0) (zs .1 .1 .1 .1 .1 .0) (zs .1 .1 .1 .1 .1 .1 .0) e lenI lenT lenM is-h .prf))))))))
+
+    -- the text is lent as `&` for `joined`, up to the end of `read_from`
+    lends-joined : K → Soaks G → (h : Head) (w : Val) (T M : List ℕ) → length T ≡ length ts → Headed h T M
+        → ((ν : ℕ) (δ : GName) → Seq K W (raw (Joined 𝓤 H A mem″ run .pre (to-joined ν δ T h w)) ∷ HeadIs h w ∷ HeadIs h w ∷ ‵ (Withheld u8 κt (ν ∷ []) qt γt bt ot T) ∷ Γ) G)
+        → Sq W (HeadIs h w ∷ Text T ∷ ‵ (flft κt qt) ∷ Γ) G
+    lends-joined t z h w T M lT e k′ =
+        move ! (1 ∷ []) $ rewrite ! 0 (λ (us : List Val). ‵ (MutSlice (named 2) κt u8 .own (xt γt T) us)) (sym (at-text T lT)) refl $
+        lft-new ! z (λ ν. move ! (1 ∷ 3 ∷ []) $
+        use2 W (later (some (λ (δ : GName). ‵ (ShrSlice (named 0) (ν ∷ []) u8 .own (xt δ T) (sliceVal (bt, ot) (length T) ∷ [])) ⊛ ‵ (Withheld u8 κt (ν ∷ []) qt γt bt ot T)))) (shared-on u8 κt (ν ∷ []) qt γt bt ot 𝓤 H A W (named 2) (named 0) T) $
+        await ! z $ pick ! (λ δ. split ! $ rewrite ! 0 (λ (us : List Val). ‵ (ShrSlice (named 0) (ν ∷ []) u8 .own (xt δ T) us)) (at-text T lT) refl $
+        -- [text; textKept; ν; head; …]
+        move ! (3 ∷ []) $ use1 W (HeadIs h w ⊛ HeadIs h w) (LL.copy HD.the-type HD′.the-copy 𝓤 H A W .twice h (w ∷ [])) $ split ! $
+        use1 W (HeadIs h w ⊛ HeadIs h w) (LL.copy HD.the-type HD′.the-copy 𝓤 H A W .twice h (w ∷ [])) $ split ! $
+        move ! (5 ∷ 3 ∷ 2 ∷ []) $ group ! 3 $ use1 W (raw (Joined 𝓤 H A mem″ run .pre (to-joined ν δ T h w))) (goes-joined ν δ T h w (e .within .0)) $ by ! (k′ ν δ .prf)))
+
+    after-joined : K → Soaks G → (ν : ℕ) (δ : GName) (T : List ℕ) (h : Head) (w v : Val)
+        → ((j : RefT (List ℕ)) → j .now ≡ take (h .length) T → Is (ShrSlice (named 0) (ν ∷ []) u8) j (v ∷ []) → Seq K W (‵ (ShrSlice (named 0) (ν ∷ []) u8 .own j (v ∷ [])) ∷ ‵ (flft (ν ∷ []) fullShare) ∷ Γ) G)
+        → Sq W (raw (Joined 𝓤 H A mem″ run .post (to-joined ν δ T h w) v) ∷ Γ) G
+    after-joined t z ν δ T h w v k′ =
+        use1 W (later (some (λ (j : RefT (List ℕ)). ((‵ (flft (ν ∷ []) fullShare) ⊛ ‵ ftrue) ⊛ ‵ (ShrSlice (named 0) (ν ∷ []) u8 .own j (v ∷ []))) ⊛ raw (ensured 𝓤 H A jd.ended (jd.clauses 𝓤 H A mem″ run) (ν ∷ [], tt) (xt δ T, (h, tt)) tt j)))) (id⊢ 𝓤 _) $ await ! z $ pick ! (λ j.
+        split ! $ move ! (1 ∷ []) $ use1 W (raw (fact 𝓤 (j .now ≡ take (h .length) T))) (joined-said 𝓤 H A mem″ run (ν ∷ []) (xt δ T) h j) $
+        heard ! (j .now ≡ take (h .length) T) (λ e. split ! $ split ! $ move ! (1 ∷ []) $ drop ! $ move ! (1 ∷ []) $
+        peeks ! (ShrSlice (named 0) (ν ∷ []) u8) (Is (ShrSlice (named 0) (ν ∷ []) u8)) (shows 𝓤 H A (ShrSlice (named 0) (ν ∷ []) u8)) j (v ∷ []) (λ is. by ! (k′ j e is .prf))))
+
+    after-start : K → Soaks G → (h : Head) (w v : Val) → ((s : SequenceState) → s ≡ h .start → Is SS.the-row s (v ∷ []) → Seq K W (‵ (SS.the-row .own s (v ∷ [])) ∷ Γ) G) → Sq W (raw (StartOf 𝓤 H A mem″ run .post (to-start h w) v) ∷ Γ) G
+    after-start t z h w v k′ =
+        use1 W (later (some (λ (s : SequenceState). (‵ ftrue ⊛ ‵ (SS.the-row .own s (v ∷ []))) ⊛ raw (ensured 𝓤 H A so.ended (so.clauses 𝓤 H A mem″ run) tt (h, tt) tt s)))) (id⊢ 𝓤 _) $ await ! z $ pick ! (λ s.
+        split ! $ move ! (1 ∷ []) $ use1 W (raw (fact 𝓤 (s ≡ h .start))) (start-said 𝓤 H A mem″ run h s) $ heard ! (s ≡ h .start) (λ e. split ! $ drop ! $
+        peeks ! SS.the-row (Is SS.the-row) (shows 𝓤 H A SS.the-row) s (v ∷ []) (λ is. by ! (k′ s e is .prf))))
+
+    -- the index is lent as `&`; `read_from` has the record slots for good
+    lends-from : K → Soaks G → (i : ℕ) (I : List ℕ) → length I ≡ length zeros → (ν : ℕ) (j : RefT (List ℕ)) (w : Val) (s : SequenceState) (v : Val) → Started bk (j .now) (length (xr .now)) s → Indexes bk I
+        → ((ν₄ : ℕ) (δ₄ : GName) → Seq K W (raw (ReadFrom 𝓤 H A mem″ run .pre (to-from i ν₄ δ₄ I ν j w s v)) ∷ IndexShared i ν₄ I ∷ Γ) G)
+        → Sq W (‵ (cells (mem u32) I i 0) ∷ ‵ (flft κb qb) ∷ ‵ (flft (ν ∷ []) fullShare) ∷ ‵ (flft κr qr) ∷ ‵ Own-b ∷ ‵ (ShrSlice (named 0) (ν ∷ []) u8 .own j (w ∷ [])) ∷ ‵ (SS.the-row .own s (v ∷ [])) ∷ ‵ Own-r ∷ Γ) G
+    lends-from t z i I lI ν j w s v started indexed k′ =
+        lft-new ! z (λ ν₄. move ! (1 ∷ []) $
+        use1 W (later (some (λ (δ₄ : GName). ‵ (ShrSlice (named 1) (ν₄ ∷ []) u32 .own (lent-at i δ₄ I) (sliceVal (i, 0) (length I) ∷ [])) ⊛ IndexShared i ν₄ I))) (index-shared 𝓤 H A W (named 1) (ν₄ ∷ []) I i (long I lI)) $
+        await ! z $ pick ! (λ δ₄. split ! $ rewrite ! 0 (λ (n : ℕ). ‵ (ShrSlice (named 1) (ν₄ ∷ []) u32 .own (lent-at i δ₄ I) (sliceVal (i, 0) n ∷ []))) (long I lI) refl $
+        -- [index; lent; ν₄; tb; ν; tr; book; joined; state; records; …]
+        move ! (3 ∷ 2 ∷ 4 ∷ 5 ∷ 6 ∷ 0 ∷ 7 ∷ 8 ∷ 9 ∷ []) $ group ! 9 $ use1 W (raw (ReadFrom 𝓤 H A mem″ run .pre (to-from i ν₄ δ₄ I ν j w s v))) (goes-from i ν₄ δ₄ I ν j w s v started indexed) $ by ! (k′ ν₄ δ₄ .prf)))
+
+    -- the local has its array again, and text is had again as `&mut`
+    after-from : K → Soaks G → (i ν₄ : ℕ) (δ₄ : GName) (I : List ℕ) → length I ≡ length zeros → (ν : ℕ) (j : RefT (List ℕ)) (w : Val) (s : SequenceState) (v : Val) (T : List ℕ) → length T ≡ length ts → (u : Val)
+        → ((b : SequenceAnswer) (us : List ClauseRecord) → Filled j s b us → length us ≡ length (xr .now) → Is SA.the-row b (u ∷ [])
+        → Seq K W (‵ (SA.the-row .own b (u ∷ [])) ∷ ‵ (fat fullShare index-ty i 0 (mach I)) ∷ Text T ∷ ‵ (flft κt qt) ∷ ‵ (flft κb qb) ∷ ‵ (flft κr qr) ∷ Records us ∷ Γ) G)
+        → Sq W (raw (ReadFrom 𝓤 H A mem″ run .post (to-from i ν₄ δ₄ I ν j w s v) u) ∷ IndexShared i ν₄ I ∷ ‵ (Withheld u8 κt (ν ∷ []) qt γt bt ot T) ∷ Γ) G
+    after-from t z i ν₄ δ₄ I lI ν j w s v T lT u k′ =
+        use1 W (later (some (λ (b : SequenceAnswer). ((‵ (flft κb qb) ⊛ (‵ (flft (ν₄ ∷ []) fullShare) ⊛ (‵ (flft (ν ∷ []) fullShare) ⊛ (‵ (flft κr qr) ⊛ ‵ ftrue)))) ⊛ ‵ (SA.the-row .own b (u ∷ []))) ⊛ raw (ensured 𝓤 H A rf.ended (rf.clauses 𝓤 H A mem″ run) (κb, (ν₄ ∷ [], (ν ∷ [], (κr, tt)))) (xb, (lent-at i δ₄ I, (j, (s, (xr, tt))))) tt b)))) (id⊢ 𝓤 _) $ await ! z $ pick ! (λ b.
+        split ! $ move ! (1 ∷ []) $
+        use1 W (some (λ (us : Unit {0} × (Unit {0} × (Unit {0} × (Unit {0} × (List ClauseRecord × Unit {0}))))). ‵ (lasts rf.ended (κb, (ν₄ ∷ [], (ν ∷ [], (κr, tt)))) (xb, (lent-at i δ₄ I, (j, (s, (xr, tt))))) us) ⊛ raw (fact 𝓤 (Filled j s b (us .1 .1 .1 .1 .0))))) (id⊢ 𝓤 _) $ pick ! (λ us.
+        split ! $ move ! (1 ∷ []) $ heard ! (Filled j s b (us .1 .1 .1 .1 .0)) (λ e. fsplit ! $ drop ! $ fsplit ! $ drop ! $ fsplit ! $ drop ! $ fsplit ! $ drop ! $ fsplit ! $ fsplit ! $ move ! (1 ∷ []) $ feqL ! (λ lenR.
+        move ! (2 ∷ []) $ split ! $ split ! $ move ! (1 ∷ []) $ split ! $ move ! (1 ∷ []) $ split ! $ move ! (1 ∷ []) $ split ! $ move ! (5 ∷ []) $
+        -- [answer; tr; true; ν; ν₄; tb; lastR; true; lent; textKept; …]
+        peeks ! SA.the-row (Is SA.the-row) (shows 𝓤 H A SA.the-row) b (u ∷ []) (λ is.
+        move ! (4 ∷ []) $ lft-end ! z $ move ! (0 ∷ 8 ∷ []) $ use2 W (later (‵ (fat fullShare index-ty i 0 (mach I)))) (index-back 𝓤 H A W (ν₄ ∷ []) I i (long I lI)) $ await ! z $
+        move ! (4 ∷ []) $ lft-end ! z $ move ! (0 ∷ 8 ∷ []) $
+        use2 W (later (‵ (MutSlice (named 2) κt u8 .own (xt γt T) (sliceVal (bt, ot) (length T) ∷ [])) ⊛ ‵ (flft κt qt))) (unshared u8 κt (ν ∷ []) qt γt bt ot 𝓤 H A W (named 2) (named 0) T (subst (Room u8) (sym lT) room-t)) $
+        await ! z $ split ! $ rewrite ! 0 (λ (vs : List Val). ‵ (MutSlice (named 2) κt u8 .own (xt γt T) vs)) (at-text T lT) refl $
+        -- [text; tt; index; answer; tr; true; tb; lastR; true; …]
+        move ! (5 ∷ 8 ∷ 3 ∷ 2 ∷ 0 ∷ 1 ∷ 6 ∷ 4 ∷ []) $ drop ! $ drop ! $ by ! (k′ b (us .1 .1 .1 .1 .0) e lenR is .prf))))))
+
+    after-settle : K → Soaks G → (T M : List ℕ) (h : Head) (w : Val) (b : SequenceAnswer) (v u : Val)
+        → ((r : LineAnswer) (T₂ M₂ : List ℕ) → Settled T M h b r T₂ M₂ → length T₂ ≡ length T → length M₂ ≡ length M → Is LA.the-row r (u ∷ [])
+        → Seq K W (‵ (LA.the-row .own r (u ∷ [])) ∷ ‵ (flft κm qm) ∷ ‵ (flft κt qt) ∷ ‵ (finally u16 γm M₂) ∷ ‵ (finally u8 γt T₂) ∷ Γ) G)
+        → Sq W (raw (Settle 𝓤 H A mem″ run .post (to-settle T M h w b v) u) ∷ Γ) G
+    after-settle t z T M h w b v u k′ =
+        use1 W (later (some (λ (r : LineAnswer). ((‵ (flft κt qt) ⊛ (‵ (flft κm qm) ⊛ ‵ ftrue)) ⊛ ‵ (LA.the-row .own r (u ∷ []))) ⊛ raw (ensured 𝓤 H A sl.ended (sl.clauses 𝓤 H A mem″ run) (κt, (κm, tt)) (h, (b, (xt γt T, (xm γm M, tt)))) tt r)))) (id⊢ 𝓤 _) $ await ! z $ pick ! (λ r.
+        split ! $ move ! (1 ∷ []) $
+        use1 W (some (λ (vs : Unit {0} × (Unit {0} × (List ℕ × (List ℕ × Unit {0})))). ‵ (lasts sl.ended (κt, (κm, tt)) (h, (b, (xt γt T, (xm γm M, tt)))) vs) ⊛ raw (fact 𝓤 (Settled T M h b r (vs .1 .1 .0) (vs .1 .1 .1 .0))))) (id⊢ 𝓤 _) $ pick ! (λ vs.
+        split ! $ move ! (1 ∷ []) $ heard ! (Settled T M h b r (vs .1 .1 .0) (vs .1 .1 .1 .0)) (λ e. fsplit ! $ drop ! $ fsplit ! $ drop ! $ fsplit ! $ fsplit ! $ move ! (1 ∷ []) $ feqL ! (λ lenT.
+        move ! (1 ∷ []) $ fsplit ! $ fsplit ! $ move ! (1 ∷ []) $ feqL ! (λ lenM.
+        move ! (3 ∷ []) $ split ! $ split ! $ move ! (1 ∷ []) $ split ! $ move ! (3 ∷ []) $ peeks ! LA.the-row (Is LA.the-row) (shows 𝓤 H A LA.the-row) r (u ∷ []) (λ is.
+        -- [answer; tm; true; tt; lastM; true; lastT; …]
+        move ! (2 ∷ 5 ∷ []) $ drop ! $ drop ! $ by ! (k′ r (vs .1 .1 .0) (vs .1 .1 .1 .0) e lenT lenM is .prf)))))))
+
   module _ (C : Calls 𝓤 H) (Λ : Loops 𝓤 H) (fm : FmC 𝓤 H (W .laws) C)
       (known-head : Triple 𝓤 (C #rh) (ReadHead 𝓤 H A mem″ run)) (known-joined : Triple 𝓤 (C #jd) (Joined 𝓤 H A mem″ run)) (known-start : Triple 𝓤 (C #so) (StartOf 𝓤 H A mem″ run)) (known-from : Triple 𝓤 (C #rf) (ReadFrom 𝓤 H A mem″ run)) (known-settle : Triple 𝓤 (C #sl) (Settle 𝓤 H A mem″ run)) where
     walk : ent 𝓤 (onEntry 𝓤 H A f.signature (κb, (κn, (κt, (κm, (κr, tt))))) (qb, (qn, (qt, (qm, (qr, tt))))) a vals) (WpFn 𝓤 H C Λ code.function (vl ∷ vp ∷ sb ∷ sn ∷ st ∷ sm ∷ vint w64 k ∷ sr ∷ []) Post)
     walk =
-        qed W ((‵ (flft κb qb) ⊛ (‵ (flft κn qn) ⊛ (‵ (flft κt qt) ⊛ (‵ (flft κm qm) ⊛ (‵ (flft κr qr) ⊛ ‵ ftrue))))) ∷ ‵ (owns (LG.the-row ∷ PX.the-row ∷ ShrSlice (named 0) κb u8 ∷ ShrSlice (named 1) κn u8 ∷ MutSlice (named 2) κt u8 ∷ MutSlice (named 3) κm u16 ∷ usize ∷ MutSlice (named 4) κr T.the-row ∷ []) a vals) ∷ []) ∵
+        qed W (Tokens ∷ Owned ∷ []) ∵
         enter ! C Λ code.function (vl ∷ vp ∷ sb ∷ sn ∷ st ∷ sm ∷ vint w64 k ∷ sr ∷ []) _ $
-        alloc1 ! (λ l0. alloc1 ! (λ l1. alloc1 ! (λ l2. alloc1 ! (λ l3. alloc1 ! (λ l4. alloc1 ! (λ l5. alloc1 ! (λ l6. alloc1 ! (λ l7. alloc1 ! (λ l8. alloc1 ! (λ l9. alloc1 ! (λ l10. alloc1 ! (λ l11. alloc1 ! (λ l12. alloc1 ! (λ l13. alloc1 ! (λ l14. alloc1 ! (λ l15. alloc1 ! (λ l16. alloc1 ! (λ l17. alloc1 ! (λ l18. alloc1 ! (λ l19. alloc1 ! (λ l20. alloc1 ! (λ l21. alloc1 ! (λ l22. alloc1 ! (λ l23. alloc1 ! (λ l24. alloc1 ! (λ l25. alloc1 ! (λ l26. alloc1 ! (λ l27. alloc1 ! (λ l28. alloc1 ! (λ l29.
-        alloc0 ! $ params1 ! $ pass1 ! (init ! 56 refl (EL.lawful LG.the-type LG′.the-laws 𝓤 H A W tt .typed l _ is-l .0)) $
+        allocs-all ! (λ l0 l1 l2 l3 l4 l5 l6 l7 l8 l9 l10 l11 l12 l13 l14 l15 l16 l17 l18 l19 l20 l21 l22 l23 l24 l25 l26 l27 l28 l29. params1 ! $ pass1 ! (init ! 56 refl (EL.lawful LG.the-type LG′.the-laws 𝓤 H A W tt .typed l _ is-l .0)) $
         pass1 ! (init ! 54 refl (EL.lawful PX.the-type PX′.the-laws 𝓤 H A W tt .typed p _ is-p .0)) $ pass1 ! (init ! 52 refl (tt, (tt, (record { fits = room-b .0 }, tt)))) $
         pass1 ! (init ! 50 refl (tt, (tt, (record { fits = room-n .0 }, tt)))) $ pass1 ! (init ! 48 refl (tt, (tt, (record { fits = room-t .0 }, tt)))) $
         pass1 ! (init ! 46 refl (tt, (tt, (record { fits = room-m .0 }, tt)))) $ pass1 ! (init ! 44 refl (tt, record { fits = k-fits })) $
@@ -303,113 +449,50 @@ module _ {M : Type 1} (𝓤 : URA M) (H : Heap 𝓤) (A : Atoms 𝓤) (W : Given
         assigns ! (agg ! (and-then ! (load ! (from ! (stop !)) (look ! 27 refl)) (and-then ! (load ! (from ! (fld ! refl (stop !))) (look-in ! 49 (sub ! 1 refl (whole !)))) (no-more !)))) (from ! (stop !)) (init ! 25 refl (tt, (tt, (record { fits = room-t .0 }, tt)))) $
         assigns ! (addr ! (from ! (fld ! refl (hop ! (look-in ! 47 (sub ! 0 refl (whole !))) (stop !))))) (from ! (stop !)) (init ! 23 refl (tt, tt)) $
         assigns ! (agg ! (and-then ! (load ! (from ! (stop !)) (look ! 23 refl)) (and-then ! (load ! (from ! (fld ! refl (stop !))) (look-in ! 47 (sub ! 1 refl (whole !)))) (no-more !)))) (from ! (stop !)) (init ! 21 refl (tt, (tt, (record { fits = room-m .0 }, tt)))) $
-        move ! (41 ∷ 0 ∷ []) $ use2 W (‵ (cells (mem u32) zeros l9 0)) (index-laid 𝓤 H A W zeros blank l9) $
-        move ! (61 ∷ []) $ fsplit ! $ move ! (1 ∷ []) $ fsplit ! $ move ! (1 ∷ []) $ fsplit ! $ move ! (1 ∷ []) $ fsplit ! $ move ! (1 ∷ []) $ fsplit ! $ move ! (1 ∷ []) $ fsplit ! $ move ! (1 ∷ []) $ fsplit ! $ move ! (1 ∷ []) $ fsplit ! $
-        move ! (69 ∷ []) $ split ! $ move ! (1 ∷ []) $ split ! $ move ! (1 ∷ []) $ split ! $ move ! (1 ∷ []) $ split ! $ move ! (1 ∷ []) $ split ! $
-        -- [tr; true; tm; tt; tn; tb; records; true; slots; map; text; line; book; prefix; language; index; …]
-        -- the index is lent for `read_head`, and text and map are lent on
-        lft-new ! tt (λ ν₀. move ! (16 ∷ []) $
-        use1 W (later (some (λ (δ₀ : GName). ‵ (MutSlice (named 1) (ν₀ ∷ []) u32 .own (lent-at l9 δ₀ zeros) (sliceVal (l9, 0) (length zeros) ∷ [])) ⊛ ‵ (flent (ν₀ ∷ []) (Held u32 (length zeros) l9 0 δ₀))))) (lends-slice 𝓤 H A W u32 (named 1) (ν₀ ∷ []) zeros l9 0 (index-room zeros (zeros-fresh .long))) $
-        await ! tt $ pick ! (λ δ₀. split ! $ rewrite ! 0 (λ (n : ℕ). ‵ (MutSlice (named 1) (ν₀ ∷ []) u32 .own (lent-at l9 δ₀ zeros) (sliceVal (l9, 0) n ∷ []))) (zeros-fresh .long) refl $
-        lft-new ! tt (λ ν₁. move ! (14 ∷ 7 ∷ []) $
-        use2 W (later (some (λ (δ₁ : GName). ‵ (MutSlice (named 2) (ν₁ ∷ []) u8 .own (xt δ₁ ts) (st ∷ [])) ⊛ ‵ (Outstanding u8 κt (ν₁ ∷ []) qt γt bt ot δ₁ ts)))) (lent-on u8 κt (ν₁ ∷ []) qt γt bt ot 𝓤 H A W (named 2) (named 2) ts) $
-        await ! tt $ pick ! (λ δ₁. split ! $ lft-new ! tt (λ ν₂. move ! (15 ∷ 9 ∷ []) $
-        use2 W (later (some (λ (δ₂ : GName). ‵ (MutSlice (named 3) (ν₂ ∷ []) u16 .own (xm δ₂ ms) (sm ∷ [])) ⊛ ‵ (Outstanding u16 κm (ν₂ ∷ []) qm γm bm om δ₂ ms)))) (lent-on u16 κm (ν₂ ∷ []) qm γm bm om 𝓤 H A W (named 3) (named 3) ms) $
-        await ! tt $ pick ! (λ δ₂. split ! $ move ! (17 ∷ []) $ use1 W (‵ Own-b ⊛ ‵ Own-b) (shr-slice-copy 𝓤 H A W (named 0) κb u8 .twice xb (sb ∷ [])) $ split ! $
-        move ! (14 ∷ 10 ∷ 13 ∷ 7 ∷ 4 ∷ 20 ∷ 19 ∷ 0 ∷ 8 ∷ 18 ∷ 5 ∷ 2 ∷ 17 ∷ []) $ group ! 13 $ use1 W (raw (ReadHead 𝓤 H A mem″ run .pre (to-head l9 ν₀ δ₀ ν₁ δ₁ ν₂ δ₂))) (goes-head l9 ν₀ δ₀ ν₁ δ₁ ν₂ δ₂) $
-        -- [pre; book′; mapKept; textKept; lent; tr; true; records; true; …]
-        calls-at ! fm (ReadHead 𝓤 H A mem″ run) known-head (to-head l9 ν₀ δ₀ ν₁ δ₁ ν₂ δ₂) (and-then ! (load ! (from ! (stop !)) (look ! 64 refl)) (and-then ! (load ! (from ! (stop !)) (look ! 62 refl)) (and-then ! (load ! (from ! (stop !)) (look ! 60 refl)) (and-then ! (load ! (from ! (stop !)) (look ! 37 refl)) (and-then ! (load ! (from ! (stop !)) (look ! 58 refl)) (and-then ! (load ! (from ! (stop !)) (look ! 33 refl)) (and-then ! (load ! (from ! (stop !)) (look ! 29 refl)) (and-then ! (load ! (from ! (stop !)) (look ! 52 refl)) (no-more !))))))))) (λ w₁.
-        use1 W (later (some (λ (h : Head). ((‵ (flft κb qb) ⊛ (‵ (flft (ν₀ ∷ []) fullShare) ⊛ (‵ (flft κn qn) ⊛ (‵ (flft (ν₁ ∷ []) fullShare) ⊛ (‵ (flft (ν₂ ∷ []) fullShare) ⊛ ‵ ftrue))))) ⊛ ‵ (HD.the-row .own h (w₁ ∷ []))) ⊛ raw (ensured 𝓤 H A rh.ended (rh.clauses 𝓤 H A mem″ run) (κb, (ν₀ ∷ [], (κn, (ν₁ ∷ [], (ν₂ ∷ [], tt))))) (l, (p, (xb, (lent-at l9 δ₀ zeros, (xn, (xt δ₁ ts, (xm δ₂ ms, (k, tt)))))))) tt h)))) (id⊢ 𝓤 _) $ await ! tt $ pick ! (λ h.
-        split ! $ move ! (1 ∷ []) $
-        use1 W (some (λ (zs : Unit {0} × (Unit {0} × (Unit {0} × (List ℕ × (Unit {0} × (List ℕ × (List ℕ × (Unit {0} × Unit {0})))))))). ‵ (lasts rh.ended (κb, (ν₀ ∷ [], (κn, (ν₁ ∷ [], (ν₂ ∷ [], tt))))) (l, (p, (xb, (lent-at l9 δ₀ zeros, (xn, (xt δ₁ ts, (xm δ₂ ms, (k, tt)))))))) zs) ⊛ raw (fact 𝓤 (Began h (zs .1 .1 .1 .0) (zs .1 .1 .1 .1 .1 .0) (zs .1 .1 .1 .1 .1 .1 .0))))) (id⊢ 𝓤 _) $ pick ! (λ zs.
-        split ! $ move ! (1 ∷ []) $ heard ! (Began h (zs .1 .1 .1 .0) (zs .1 .1 .1 .1 .1 .0) (zs .1 .1 .1 .1 .1 .1 .0)) (λ e. fsplit ! $ drop ! $ fsplit ! $ drop ! $ fsplit ! $ drop ! $ fsplit ! $ fsplit ! $ move ! (1 ∷ []) $ feqL ! (λ lenI.
-        move ! (1 ∷ []) $ fsplit ! $ drop ! $ fsplit ! $ fsplit ! $ move ! (1 ∷ []) $ feqL ! (λ lenT. move ! (1 ∷ []) $ fsplit ! $ fsplit ! $ move ! (1 ∷ []) $ feqL ! (λ lenM.
-        move ! (4 ∷ []) $ split ! $ split ! $ move ! (1 ∷ []) $ split ! $ move ! (1 ∷ []) $ split ! $ move ! (1 ∷ []) $ split ! $ move ! (1 ∷ []) $ split ! $ move ! (6 ∷ []) $
-        -- [head; ν₂; true; ν₁; tn; ν₀; tb; lastM; true; lastT; lastI; book′; mapKept; textKept; lent; tr; true; records; true; …]
-        peeks ! HD.the-row (Is HD.the-row) (shows 𝓤 H A HD.the-row) h (w₁ ∷ []) (λ is-h. land ! (from ! (stop !)) (init ! 57 refl (LL.lawful HD.the-type HD′.the-laws 𝓤 H A W .typed h _ is-h .0)) $
-        -- the lifetimes are ended; text, map and the index's numbers are had again
-        move ! (3 ∷ []) $ lft-end ! tt $ move ! (0 ∷ 13 ∷ 9 ∷ []) $
-        use3 W (later (‵ (MutSlice (named 2) κt u8 .own (xt γt (zs .1 .1 .1 .1 .1 .0)) (st ∷ [])) ⊛ ‵ (flft κt qt))) (had-again u8 κt (ν₁ ∷ []) qt γt bt ot 𝓤 H A W (named 2) (named 2) ts δ₁ (zs .1 .1 .1 .1 .1 .0) room-t lenT) $
-        await ! tt $ split ! $ move ! (3 ∷ []) $ lft-end ! tt $ move ! (0 ∷ 12 ∷ 8 ∷ []) $
-        use3 W (later (‵ (MutSlice (named 3) κm u16 .own (xm γm (zs .1 .1 .1 .1 .1 .1 .0)) (sm ∷ [])) ⊛ ‵ (flft κm qm))) (had-again u16 κm (ν₂ ∷ []) qm γm bm om 𝓤 H A W (named 3) (named 3) ms δ₂ (zs .1 .1 .1 .1 .1 .1 .0) room-m lenM) $
-        await ! tt $ split ! $ move ! (7 ∷ []) $ lft-end ! tt $ move ! (0 ∷ 12 ∷ 10 ∷ []) $
-        use3 W (later (‵ (Arr (mem u32) (length zeros) .lies (zs .1 .1 .1 .0) l9 0))) (slice-back 𝓤 H A W u32 (ν₀ ∷ []) δ₀ (zs .1 .1 .1 .0) (length zeros) l9 0) $ await ! tt $ fsplit ! $ drop ! $
-        assigns ! (addr ! (from ! (fld ! refl (hop ! (look-in ! 62 (sub ! 0 refl (whole !))) (stop !))))) (from ! (stop !)) (init ! 33 refl (tt, tt)) $
-        assigns ! (agg ! (and-then ! (load ! (from ! (stop !)) (look ! 33 refl)) (and-then ! (load ! (from ! (fld ! refl (stop !))) (look-in ! 62 (sub ! 1 refl (whole !)))) (no-more !)))) (from ! (stop !)) (init ! 31 refl (tt, (tt, (record { fits = room-t .0 }, tt)))) $
-        -- the text is lent as `&` for `joined`, up to the end of `read_from`
-        move ! (3 ∷ []) $ rewrite ! 0 (λ (us : List Val). ‵ (MutSlice (named 2) κt u8 .own (xt γt (zs .1 .1 .1 .1 .1 .0)) us)) (sym (at-text (zs .1 .1 .1 .1 .1 .0) lenT)) refl $
-        lft-new ! tt (λ ν₃. move ! (1 ∷ 5 ∷ []) $
-        use2 W (later (some (λ (δ₃ : GName). ‵ (ShrSlice (named 0) (ν₃ ∷ []) u8 .own (xt δ₃ (zs .1 .1 .1 .1 .1 .0)) (sliceVal (bt, ot) (length (zs .1 .1 .1 .1 .1 .0)) ∷ [])) ⊛ ‵ (Withheld u8 κt (ν₃ ∷ []) qt γt bt ot (zs .1 .1 .1 .1 .1 .0))))) (shared-on u8 κt (ν₃ ∷ []) qt γt bt ot 𝓤 H A W (named 2) (named 0) (zs .1 .1 .1 .1 .1 .0)) $
-        await ! tt $ pick ! (λ δ₃. split ! $ rewrite ! 0 (λ (us : List Val). ‵ (ShrSlice (named 0) (ν₃ ∷ []) u8 .own (xt δ₃ (zs .1 .1 .1 .1 .1 .0)) us)) (at-text (zs .1 .1 .1 .1 .1 .0) lenT) refl $
-        move ! (6 ∷ []) $ use1 W (‵ (HD.the-row .own h (w₁ ∷ [])) ⊛ ‵ (HD.the-row .own h (w₁ ∷ []))) (LL.copy HD.the-type HD′.the-copy 𝓤 H A W .twice h (w₁ ∷ [])) $ split ! $
-        use1 W (‵ (HD.the-row .own h (w₁ ∷ [])) ⊛ ‵ (HD.the-row .own h (w₁ ∷ []))) (LL.copy HD.the-type HD′.the-copy 𝓤 H A W .twice h (w₁ ∷ [])) $ split ! $
-        move ! (5 ∷ 3 ∷ 2 ∷ []) $ group ! 3 $ use1 W (raw (Joined 𝓤 H A mem″ run .pre (to-joined ν₃ δ₃ (zs .1 .1 .1 .1 .1 .0) h w₁))) (goes-joined ν₃ δ₃ (zs .1 .1 .1 .1 .1 .0) h w₁ (e .0 .within .0)) $
-        -- [pre; head; head′; textKept; index; map; tm; true; tn; tb; true; book′; tr; true; records; true; …]
-        calls-at ! fm (Joined 𝓤 H A mem″ run) known-joined (to-joined ν₃ δ₃ (zs .1 .1 .1 .1 .1 .0) h w₁) (and-then ! (load ! (from ! (stop !)) (look ! 32 refl)) (and-then ! (load ! (from ! (stop !)) (look ! 54 refl)) (no-more !))) (λ w₂.
-        use1 W (later (some (λ (j : RefT (List ℕ)). ((‵ (flft (ν₃ ∷ []) fullShare) ⊛ ‵ ftrue) ⊛ ‵ ((ShrSlice (named 0) (ν₃ ∷ []) u8) .own j (w₂ ∷ []))) ⊛ raw (ensured 𝓤 H A jd.ended (jd.clauses 𝓤 H A mem″ run) (ν₃ ∷ [], tt) (xt δ₃ (zs .1 .1 .1 .1 .1 .0), (h, tt)) tt j)))) (id⊢ 𝓤 _) $ await ! tt $ pick ! (λ j.
-        split ! $ move ! (1 ∷ []) $ use1 W (raw (fact 𝓤 (j .now ≡ take (h .length) (zs .1 .1 .1 .1 .1 .0)))) (joined-said 𝓤 H A mem″ run (ν₃ ∷ []) (xt δ₃ (zs .1 .1 .1 .1 .1 .0)) h j) $
-        heard ! (j .now ≡ take (h .length) (zs .1 .1 .1 .1 .1 .0)) (λ e₂. split ! $ split ! $ move ! (2 ∷ []) $
-        peeks ! (ShrSlice (named 0) (ν₃ ∷ []) u8) (Is (ShrSlice (named 0) (ν₃ ∷ []) u8)) (shows 𝓤 H A (ShrSlice (named 0) (ν₃ ∷ []) u8)) j (w₂ ∷ []) (λ is-j.
-        land ! (from ! (stop !)) (init ! 54 refl (shr-slice-lawful 𝓤 H A W (named 0) (ν₃ ∷ []) u8 .typed j _ is-j .0)) $
-        -- `start_of`
-        move ! (4 ∷ []) $ use1 W (raw (StartOf 𝓤 H A mem″ run .pre (to-start h w₁))) (goes-start h w₁) $
-        calls-at ! fm (StartOf 𝓤 H A mem″ run) known-start (to-start h w₁) (and-then ! (load ! (from ! (stop !)) (look ! 56 refl)) (no-more !)) (λ w₃.
-        use1 W (later (some (λ (s : SequenceState). (‵ ftrue ⊛ ‵ (SS.the-row .own s (w₃ ∷ []))) ⊛ raw (ensured 𝓤 H A so.ended (so.clauses 𝓤 H A mem″ run) tt (h, tt) tt s)))) (id⊢ 𝓤 _) $ await ! tt $ pick ! (λ s.
-        split ! $ move ! (1 ∷ []) $ use1 W (raw (fact 𝓤 (s ≡ h .start))) (start-said 𝓤 H A mem″ run h s) $ heard ! (s ≡ h .start) (λ e₃. split ! $ move ! (1 ∷ []) $
-        peeks ! SS.the-row (Is SS.the-row) (shows 𝓤 H A SS.the-row) s (w₃ ∷ []) (λ is-s. land ! (from ! (stop !)) (init ! 53 refl (LL.lawful SS.the-type SS′.the-laws 𝓤 H A W .typed s _ is-s .0)) $
-        assigns ! (addr ! (from ! (stop !))) (from ! (stop !)) (init ! 33 refl (tt, tt)) $
-        assigns ! (agg ! (and-then ! (load ! (from ! (stop !)) (look ! 33 refl)) (and-then ! (big-lit ! (record { fits = lit< tt })) (no-more !)))) (from ! (stop !)) (init ! 31 refl (tt, (tt, (record { fits = lit< tt }, tt)))) $
-        assigns ! (addr ! (from ! (fld ! refl (hop ! (look-in ! 60 (sub ! 0 refl (whole !))) (stop !))))) (from ! (stop !)) (init ! 29 refl (tt, tt)) $
-        assigns ! (agg ! (and-then ! (load ! (from ! (stop !)) (look ! 29 refl)) (and-then ! (load ! (from ! (fld ! refl (stop !))) (look-in ! 60 (sub ! 1 refl (whole !)))) (no-more !)))) (from ! (stop !)) (init ! 27 refl (tt, (tt, (record { fits = room-r .0 }, tt)))) $
-        -- the index is lent as `&`; `read_from` has the record slots for good
-        lft-new ! tt (λ ν₄. move ! (8 ∷ []) $
-        use1 W (later (some (λ (δ₄ : GName). ‵ (ShrSlice (named 1) (ν₄ ∷ []) u32 .own (lent-at l9 δ₄ (zs .1 .1 .1 .0)) (sliceVal (l9, 0) (length (zs .1 .1 .1 .0)) ∷ [])) ⊛ ‵ (flent (ν₄ ∷ []) (arr-parts (shares u32) (length (zs .1 .1 .1 .0)) .part fullShare (zs .1 .1 .1 .0) l9 0))))) (index-shared 𝓤 H A W (named 1) (ν₄ ∷ []) (zs .1 .1 .1 .0) l9 (long (zs .1 .1 .1 .0) lenI)) $
-        await ! tt $ pick ! (λ δ₄. split ! $ rewrite ! 0 (λ (n : ℕ). ‵ (ShrSlice (named 1) (ν₄ ∷ []) u32 .own (lent-at l9 δ₄ (zs .1 .1 .1 .0)) (sliceVal (l9, 0) n ∷ []))) (long (zs .1 .1 .1 .0) lenI) refl $
-        move ! (14 ∷ 2 ∷ 6 ∷ 17 ∷ 16 ∷ 0 ∷ 5 ∷ 3 ∷ 19 ∷ []) $ group ! 9 $
-        use1 W (raw (ReadFrom 𝓤 H A mem″ run .pre (to-from l9 ν₄ δ₄ (zs .1 .1 .1 .0) ν₃ j w₂ s w₃))) (goes-from l9 ν₄ δ₄ (zs .1 .1 .1 .0) ν₃ j w₂ s w₃ (begins (zs .1 .1 .1 .1 .1 .0) (zs .1 .1 .1 .1 .1 .1 .0) h j s (e .0) e₂ e₃) (e .1)) $
-        -- [pre; lent; true; true; head; textKept; map; tm; true; tn; true; true; true; …]
-        calls-at ! fm (ReadFrom 𝓤 H A mem″ run) known-from (to-from l9 ν₄ δ₄ (zs .1 .1 .1 .0) ν₃ j w₂ s w₃) (and-then ! (load ! (from ! (stop !)) (look ! 64 refl)) (and-then ! (load ! (from ! (stop !)) (look ! 25 refl)) (and-then ! (load ! (from ! (stop !)) (look ! 49 refl)) (and-then ! (load ! (from ! (stop !)) (look ! 47 refl)) (and-then ! (load ! (from ! (stop !)) (look ! 21 refl)) (no-more !)))))) (λ w₄.
-        use1 W (later (some (λ (a : SequenceAnswer). ((‵ (flft κb qb) ⊛ (‵ (flft (ν₄ ∷ []) fullShare) ⊛ (‵ (flft (ν₃ ∷ []) fullShare) ⊛ (‵ (flft κr qr) ⊛ ‵ ftrue)))) ⊛ ‵ (SA.the-row .own a (w₄ ∷ []))) ⊛ raw (ensured 𝓤 H A rf.ended (rf.clauses 𝓤 H A mem″ run) (κb, (ν₄ ∷ [], (ν₃ ∷ [], (κr, tt)))) (xb, (lent-at l9 δ₄ (zs .1 .1 .1 .0), (j, (s, (xr, tt))))) tt a)))) (id⊢ 𝓤 _) $ await ! tt $ pick ! (λ a.
-        split ! $ move ! (1 ∷ []) $
-        use1 W (some (λ (us : Unit {0} × (Unit {0} × (Unit {0} × (Unit {0} × (List ClauseRecord × Unit {0}))))). ‵ (lasts rf.ended (κb, (ν₄ ∷ [], (ν₃ ∷ [], (κr, tt)))) (xb, (lent-at l9 δ₄ (zs .1 .1 .1 .0), (j, (s, (xr, tt))))) us) ⊛ raw (fact 𝓤 (Filled j s a (us .1 .1 .1 .1 .0))))) (id⊢ 𝓤 _) $ pick ! (λ us.
-        split ! $ move ! (1 ∷ []) $ heard ! (Filled j s a (us .1 .1 .1 .1 .0)) (λ e₄. fsplit ! $ drop ! $ fsplit ! $ drop ! $ fsplit ! $ drop ! $ fsplit ! $ drop ! $ fsplit ! $ fsplit ! $ move ! (1 ∷ []) $ feqL ! (λ lenR.
-        move ! (2 ∷ []) $ split ! $ split ! $ move ! (1 ∷ []) $ split ! $ move ! (1 ∷ []) $ split ! $ move ! (1 ∷ []) $ split ! $ move ! (5 ∷ []) $
-        peeks ! SA.the-row (Is SA.the-row) (shows 𝓤 H A SA.the-row) a (w₄ ∷ []) (λ is-a. land ! (from ! (stop !)) (init ! 52 refl (EL.lawful SA.the-type SA′.the-laws 𝓤 H A W tt .typed a _ is-a .0)) $
-        -- the local has its array again, and text is had again as `&mut`
-        move ! (4 ∷ []) $ lft-end ! tt $ move ! (0 ∷ 8 ∷ []) $ use2 W (later (‵ (fat fullShare index-ty l9 0 (mach (zs .1 .1 .1 .0))))) (index-back 𝓤 H A W (ν₄ ∷ []) (zs .1 .1 .1 .0) l9 (long (zs .1 .1 .1 .0) lenI)) $ await ! tt $
-        move ! (4 ∷ []) $ lft-end ! tt $ move ! (0 ∷ 11 ∷ []) $
-        use2 W (later (‵ (MutSlice (named 2) κt u8 .own (xt γt (zs .1 .1 .1 .1 .1 .0)) (sliceVal (bt, ot) (length (zs .1 .1 .1 .1 .1 .0)) ∷ [])) ⊛ ‵ (flft κt qt))) (unshared u8 κt (ν₃ ∷ []) qt γt bt ot 𝓤 H A W (named 2) (named 0) (zs .1 .1 .1 .1 .1 .0) (subst (Room u8) (sym lenT) room-t)) $
-        await ! tt $ split ! $ rewrite ! 0 (λ (us : List Val). ‵ (MutSlice (named 2) κt u8 .own (xt γt (zs .1 .1 .1 .1 .1 .0)) us)) (at-text (zs .1 .1 .1 .1 .1 .0) lenT) refl $
-        assigns ! (addr ! (from ! (fld ! refl (hop ! (look-in ! 66 (sub ! 0 refl (whole !))) (stop !))))) (from ! (stop !)) (init ! 25 refl (tt, tt)) $
-        assigns ! (agg ! (and-then ! (load ! (from ! (stop !)) (look ! 25 refl)) (and-then ! (load ! (from ! (fld ! refl (stop !))) (look-in ! 66 (sub ! 1 refl (whole !)))) (no-more !)))) (from ! (stop !)) (init ! 23 refl (tt, (tt, (record { fits = room-t .0 }, tt)))) $
-        assigns ! (addr ! (from ! (fld ! refl (hop ! (look-in ! 64 (sub ! 0 refl (whole !))) (stop !))))) (from ! (stop !)) (init ! 21 refl (tt, tt)) $
-        assigns ! (agg ! (and-then ! (load ! (from ! (stop !)) (look ! 21 refl)) (and-then ! (load ! (from ! (fld ! refl (stop !))) (look-in ! 64 (sub ! 1 refl (whole !)))) (no-more !)))) (from ! (stop !)) (init ! 19 refl (tt, (tt, (record { fits = room-m .0 }, tt)))) $
+        move ! (41 ∷ 0 ∷ 61 ∷ 62 ∷ []) $ lends-head ! tt l9 (λ ν₀ δ₀ ν₁ δ₁ ν₂ δ₂.
+        -- [pre; mapKept; textKept; lent; book; tr; records; …]
+        calls-at ! fm (ReadHead 𝓤 H A mem″ run) known-head (to-head l9 ν₀ δ₀ ν₁ δ₁ ν₂ δ₂) (and-then ! (load ! (from ! (stop !)) (look ! 62 refl)) (and-then ! (load ! (from ! (stop !)) (look ! 60 refl)) (and-then ! (load ! (from ! (stop !)) (look ! 58 refl)) (and-then ! (load ! (from ! (stop !)) (look ! 35 refl)) (and-then ! (load ! (from ! (stop !)) (look ! 56 refl)) (and-then ! (load ! (from ! (stop !)) (look ! 31 refl)) (and-then ! (load ! (from ! (stop !)) (look ! 27 refl)) (and-then ! (load ! (from ! (stop !)) (look ! 50 refl)) (no-more !))))))))) (λ w₁.
+        after-head ! tt l9 ν₀ δ₀ ν₁ δ₁ ν₂ δ₂ w₁ (λ h I T M e lenI lenT lenM is-h.
+        -- [head; index; map; tm; text; tt; tn; tb; book; tr; records; …]
+        land ! (from ! (stop !)) (init ! 49 refl (LL.lawful HD.the-type HD′.the-laws 𝓤 H A W .typed h _ is-h .0)) $
+        assigns ! (addr ! (from ! (fld ! refl (hop ! (look-in ! 58 (sub ! 0 refl (whole !))) (stop !))))) (from ! (stop !)) (init ! 29 refl (tt, tt)) $
+        assigns ! (agg ! (and-then ! (load ! (from ! (stop !)) (look ! 29 refl)) (and-then ! (load ! (from ! (fld ! refl (stop !))) (look-in ! 58 (sub ! 1 refl (whole !)))) (no-more !)))) (from ! (stop !)) (init ! 27 refl (tt, (tt, (record { fits = room-t .0 }, tt)))) $
+        move ! (0 ∷ 4 ∷ 5 ∷ []) $ lends-joined ! tt h w₁ T M lenT (e .0) (λ ν₃ δ₃.
+        -- [pre; head; head; textKept; index; map; tm; tn; tb; book; tr; records; …]
+        calls-at ! fm (Joined 𝓤 H A mem″ run) known-joined (to-joined ν₃ δ₃ T h w₁) (and-then ! (load ! (from ! (stop !)) (look ! 28 refl)) (and-then ! (load ! (from ! (stop !)) (look ! 50 refl)) (no-more !))) (λ w₂.
+        after-joined ! tt ν₃ δ₃ T h w₁ w₂ (λ j e₂ is-j.
+        -- [joined; ν₃; head; head; textKept; index; map; tm; tn; tb; book; tr; records; …]
+        land ! (from ! (stop !)) (init ! 49 refl (shr-slice-lawful 𝓤 H A W (named 0) (ν₃ ∷ []) u8 .typed j _ is-j .0)) $
+        move ! (2 ∷ []) $ use1 W (raw (StartOf 𝓤 H A mem″ run .pre (to-start h w₁))) (goes-start h w₁) $
+        calls-at ! fm (StartOf 𝓤 H A mem″ run) known-start (to-start h w₁) (and-then ! (load ! (from ! (stop !)) (look ! 51 refl)) (no-more !)) (λ w₃.
+        after-start ! tt h w₁ w₃ (λ s e₃ is-s.
+        -- [state; joined; ν₃; head; textKept; index; map; tm; tn; tb; book; tr; records; …]
+        land ! (from ! (stop !)) (init ! 47 refl (LL.lawful SS.the-type SS′.the-laws 𝓤 H A W .typed s _ is-s .0)) $
+        assigns ! (addr ! (from ! (stop !))) (from ! (stop !)) (init ! 27 refl (tt, tt)) $
+        assigns ! (agg ! (and-then ! (load ! (from ! (stop !)) (look ! 27 refl)) (and-then ! (big-lit ! (record { fits = lit< tt })) (no-more !)))) (from ! (stop !)) (init ! 25 refl (tt, (tt, (record { fits = lit< tt }, tt)))) $
+        assigns ! (addr ! (from ! (fld ! refl (hop ! (look-in ! 54 (sub ! 0 refl (whole !))) (stop !))))) (from ! (stop !)) (init ! 23 refl (tt, tt)) $
+        assigns ! (agg ! (and-then ! (load ! (from ! (stop !)) (look ! 23 refl)) (and-then ! (load ! (from ! (fld ! refl (stop !))) (look-in ! 54 (sub ! 1 refl (whole !)))) (no-more !)))) (from ! (stop !)) (init ! 21 refl (tt, (tt, (record { fits = room-r .0 }, tt)))) $
+        move ! (5 ∷ 9 ∷ 2 ∷ 11 ∷ 10 ∷ 1 ∷ 0 ∷ 12 ∷ []) $ lends-from ! tt l9 I lenI ν₃ j w₂ s w₃ (begins T M h j s (e .0) e₂ e₃) (e .1) (λ ν₄ δ₄.
+        -- [pre; lent; head; textKept; map; tm; tn; …]
+        calls-at ! fm (ReadFrom 𝓤 H A mem″ run) known-from (to-from l9 ν₄ δ₄ I ν₃ j w₂ s w₃) (and-then ! (load ! (from ! (stop !)) (look ! 58 refl)) (and-then ! (load ! (from ! (stop !)) (look ! 19 refl)) (and-then ! (load ! (from ! (stop !)) (look ! 43 refl)) (and-then ! (load ! (from ! (stop !)) (look ! 41 refl)) (and-then ! (load ! (from ! (stop !)) (look ! 15 refl)) (no-more !)))))) (λ w₄.
+        move ! (0 ∷ 1 ∷ 3 ∷ []) $ after-from ! tt l9 ν₄ δ₄ I lenI ν₃ j w₂ s w₃ T lenT w₄ (λ b us e₄ lenR is-b.
+        -- [answer; l9; text; tt; tb; tr; lastR; head; map; tm; tn; …]
+        land ! (from ! (stop !)) (init ! 43 refl (EL.lawful SA.the-type SA′.the-laws 𝓤 H A W tt .typed b _ is-b .0)) $
+        assigns ! (addr ! (from ! (fld ! refl (hop ! (look-in ! 58 (sub ! 0 refl (whole !))) (stop !))))) (from ! (stop !)) (init ! 17 refl (tt, tt)) $
+        assigns ! (agg ! (and-then ! (load ! (from ! (stop !)) (look ! 17 refl)) (and-then ! (load ! (from ! (fld ! refl (stop !))) (look-in ! 58 (sub ! 1 refl (whole !)))) (no-more !)))) (from ! (stop !)) (init ! 15 refl (tt, (tt, (record { fits = room-t .0 }, tt)))) $
+        assigns ! (addr ! (from ! (fld ! refl (hop ! (look-in ! 56 (sub ! 0 refl (whole !))) (stop !))))) (from ! (stop !)) (init ! 13 refl (tt, tt)) $
+        assigns ! (agg ! (and-then ! (load ! (from ! (stop !)) (look ! 13 refl)) (and-then ! (load ! (from ! (fld ! refl (stop !))) (look-in ! 56 (sub ! 1 refl (whole !)))) (no-more !)))) (from ! (stop !)) (init ! 11 refl (tt, (tt, (record { fits = room-m .0 }, tt)))) $
         -- `settle` has text and map for good
-        move ! (1 ∷ 13 ∷ 11 ∷ 3 ∷ 0 ∷ 12 ∷ []) $ group ! 6 $ use1 W (raw (Settle 𝓤 H A mem″ run .pre (to-settle (zs .1 .1 .1 .1 .1 .0) (zs .1 .1 .1 .1 .1 .1 .0) h w₁ a w₄))) (goes-settle (zs .1 .1 .1 .1 .1 .0) (zs .1 .1 .1 .1 .1 .1 .0) h w₁ a w₄ (e .0 .within)) $
-        -- [pre; l9; tr; true; tb; lastR; true; true; true; true; tn; true; true; true; …]
-        calls-at ! fm (Settle 𝓤 H A mem″ run) known-settle (to-settle (zs .1 .1 .1 .1 .1 .0) (zs .1 .1 .1 .1 .1 .1 .0) h w₁ a w₄) (and-then ! (load ! (from ! (stop !)) (look ! 52 refl)) (and-then ! (load ! (from ! (stop !)) (look ! 46 refl)) (and-then ! (load ! (from ! (stop !)) (look ! 18 refl)) (and-then ! (load ! (from ! (stop !)) (look ! 14 refl)) (no-more !))))) (λ w₅.
-        use1 W (later (some (λ (r : LineAnswer). ((‵ (flft κt qt) ⊛ (‵ (flft κm qm) ⊛ ‵ ftrue)) ⊛ ‵ (LA.the-row .own r (w₅ ∷ []))) ⊛ raw (ensured 𝓤 H A sl.ended (sl.clauses 𝓤 H A mem″ run) (κt, (κm, tt)) (h, (a, (xt γt (zs .1 .1 .1 .1 .1 .0), (xm γm (zs .1 .1 .1 .1 .1 .1 .0), tt)))) tt r)))) (id⊢ 𝓤 _) $ await ! tt $ pick ! (λ r.
-        split ! $ move ! (1 ∷ []) $
-        use1 W (some (λ (vs : Unit {0} × (Unit {0} × (List ℕ × (List ℕ × Unit {0})))). ‵ (lasts sl.ended (κt, (κm, tt)) (h, (a, (xt γt (zs .1 .1 .1 .1 .1 .0), (xm γm (zs .1 .1 .1 .1 .1 .1 .0), tt)))) vs) ⊛ raw (fact 𝓤 (Settled (zs .1 .1 .1 .1 .1 .0) (zs .1 .1 .1 .1 .1 .1 .0) h a r (vs .1 .1 .0) (vs .1 .1 .1 .0))))) (id⊢ 𝓤 _) $ pick ! (λ vs.
-        split ! $ move ! (1 ∷ []) $ heard ! (Settled (zs .1 .1 .1 .1 .1 .0) (zs .1 .1 .1 .1 .1 .1 .0) h a r (vs .1 .1 .0) (vs .1 .1 .1 .0)) (λ e₅. fsplit ! $ drop ! $ fsplit ! $ drop ! $ fsplit ! $ fsplit ! $ move ! (1 ∷ []) $ feqL ! (λ lenT₂.
-        move ! (1 ∷ []) $ fsplit ! $ fsplit ! $ move ! (1 ∷ []) $ feqL ! (λ lenM₂.
-        move ! (3 ∷ []) $ split ! $ split ! $ move ! (1 ∷ []) $ split ! $ move ! (3 ∷ []) $ peeks ! LA.the-row (Is LA.the-row) (shows 𝓤 H A LA.the-row) r (w₅ ∷ []) (λ is-r.
-        land ! (from ! (stop !)) (init ! 77 refl (EL.lawful LA.the-type LA′.the-laws 𝓤 H A W tt .typed r _ is-r .0)) $
-        -- [answer; tm; true; tt; lastM; true; lastT; l9; tr; true; tb; lastR; true; true; true; true; tn; true; true; true; …]
-        returns ! (look ! 77 refl) $
-        forget ! 77 refl $ forget ! 75 refl $ forget ! 73 refl $ forget ! 71 refl $ forget ! 69 refl $ forget ! 67 refl $ forget ! 65 refl $ forget ! 63 refl $ forget ! 61 refl $ forget ! 7 refl $
-        forget ! 58 refl $ forget ! 56 refl $ forget ! 54 refl $ forget ! 52 refl $ forget ! 50 refl $ forget ! 48 refl $ forget ! 46 refl $ forget ! 44 refl $ forget ! 42 refl $ forget ! 40 refl $
-        forget ! 38 refl $ forget ! 36 refl $ forget ! 34 refl $ forget ! 32 refl $ forget ! 30 refl $ forget ! 28 refl $ forget ! 26 refl $ forget ! 24 refl $ forget ! 22 refl $ forget ! 20 refl $
-        move ! (77 ∷ 78 ∷ []) $ free1 ! $ move ! (75 ∷ 76 ∷ []) $ free1 ! $ move ! (73 ∷ 74 ∷ []) $ free1 ! $ move ! (71 ∷ 72 ∷ []) $ free1 ! $ move ! (69 ∷ 70 ∷ []) $ free1 ! $ move ! (67 ∷ 68 ∷ []) $ free1 ! $
-        move ! (65 ∷ 66 ∷ []) $ free1 ! $ move ! (63 ∷ 64 ∷ []) $ free1 ! $ move ! (61 ∷ 62 ∷ []) $ free1 ! $ move ! (7 ∷ 60 ∷ []) $ free1 ! $ move ! (57 ∷ 58 ∷ []) $ free1 ! $ move ! (55 ∷ 56 ∷ []) $ free1 ! $
-        move ! (53 ∷ 54 ∷ []) $ free1 ! $ move ! (51 ∷ 52 ∷ []) $ free1 ! $ move ! (49 ∷ 50 ∷ []) $ free1 ! $ move ! (47 ∷ 48 ∷ []) $ free1 ! $ move ! (45 ∷ 46 ∷ []) $ free1 ! $ move ! (43 ∷ 44 ∷ []) $ free1 ! $
-        move ! (41 ∷ 42 ∷ []) $ free1 ! $ move ! (39 ∷ 40 ∷ []) $ free1 ! $ move ! (37 ∷ 38 ∷ []) $ free1 ! $ move ! (35 ∷ 36 ∷ []) $ free1 ! $ move ! (33 ∷ 34 ∷ []) $ free1 ! $ move ! (31 ∷ 32 ∷ []) $ free1 ! $
-        move ! (29 ∷ 30 ∷ []) $ free1 ! $ move ! (27 ∷ 28 ∷ []) $ free1 ! $ move ! (25 ∷ 26 ∷ []) $ free1 ! $ move ! (23 ∷ 24 ∷ []) $ free1 ! $ move ! (21 ∷ 22 ∷ []) $ free1 ! $ move ! (19 ∷ 20 ∷ []) $ free1 ! $
-        free0 ! $
-        keep ! (9 ∷ 15 ∷ 3 ∷ 1 ∷ 7 ∷ 6 ∷ 4 ∷ 10 ∷ 0 ∷ []) $ by ! (exits r w₅ (vs .1 .1 .0) (vs .1 .1 .1 .0) (us .1 .1 .1 .1 .0) (whole-is (zs .1 .1 .1 .1 .1 .0) (zs .1 .1 .1 .1 .1 .1 .0) h j s a r (us .1 .1 .1 .1 .0) (vs .1 .1 .0) (vs .1 .1 .1 .0) lenT lenM (e .0) e₂ e₃ e₄ e₅) (lenT₂ ∙ lenT) (lenM₂ ∙ lenM) lenR)))))))))))))))))))))))))))))))))))))))))))))))))))))))))))))))))))))))
-      where
-        long : (I : List ℕ) → length I ≡ length zeros → length I ≡ 1024
-        long I e = e ∙ zeros-fresh .long
+        move ! (3 ∷ 9 ∷ 7 ∷ 0 ∷ 2 ∷ 8 ∷ []) $ group ! 6 $ use1 W (raw (Settle 𝓤 H A mem″ run .pre (to-settle T M h w₁ b w₄))) (goes-settle T M h w₁ b w₄ (e .0 .within)) $
+        -- [pre; l9; tb; tr; lastR; tn; …]
+        calls-at ! fm (Settle 𝓤 H A mem″ run) known-settle (to-settle T M h w₁ b w₄) (and-then ! (load ! (from ! (stop !)) (look ! 44 refl)) (and-then ! (load ! (from ! (stop !)) (look ! 38 refl)) (and-then ! (load ! (from ! (stop !)) (look ! 10 refl)) (and-then ! (load ! (from ! (stop !)) (look ! 6 refl)) (no-more !))))) (λ w₅.
+        after-settle ! tt T M h w₁ b w₄ w₅ (λ r T₂ M₂ e₅ lenT₂ lenM₂ is-r.
+        -- [answer; tm; tt; lastM; lastT; l9; tb; tr; lastR; tn; …]
+        land ! (from ! (stop !)) (init ! 67 refl (EL.lawful LA.the-type LA′.the-laws 𝓤 H A W tt .typed r _ is-r .0)) $
+        returns ! (look ! 67 refl) $
+        -- the index goes back among the locals, and all are freed
+        move ! (5 ∷ []) $ plant ! 49 $ frees-behind ! 9 (_ ∷ _ ∷ _ ∷ _ ∷ _ ∷ _ ∷ _ ∷ _ ∷ _ ∷ _ ∷ _ ∷ _ ∷ _ ∷ _ ∷ _ ∷ _ ∷ _ ∷ _ ∷ _ ∷ _ ∷ _ ∷ _ ∷ _ ∷ _ ∷ _ ∷ _ ∷ _ ∷ _ ∷ _ ∷ _ ∷ []) refl $
+        keep ! (5 ∷ 8 ∷ 2 ∷ 1 ∷ 6 ∷ 4 ∷ 3 ∷ 7 ∷ 0 ∷ []) $ exits r w₅ T₂ M₂ us (whole-is T M h j s b r us T₂ M₂ lenT lenM (e .0) e₂ e₃ e₄ e₅) (lenT₂ ∙ lenT) (lenM₂ ∙ lenM) lenR)))))))))))))))
 
 module _ {M : Type 1} (𝓤 : URA M) (H : Heap 𝓤) (A : Atoms 𝓤) (W : Given 𝓤 H A) (mem″ : Memory → SProp 𝓤) (run : Routine → Fun 𝓤) where
   f-walks : (C : Calls 𝓤 H) (Λ : Loops 𝓤 H) → FmC 𝓤 H (W .laws) C → Triple 𝓤 (C #rh) (ReadHead 𝓤 H A mem″ run) → Triple 𝓤 (C #jd) (Joined 𝓤 H A mem″ run) → Triple 𝓤 (C #so) (StartOf 𝓤 H A mem″ run) → Triple 𝓤 (C #rf) (ReadFrom 𝓤 H A mem″ run) → Triple 𝓤 (C #sl) (Settle 𝓤 H A mem″ run)
