@@ -17,7 +17,7 @@ use ghost.Atoms.{Atoms}
 use contract.Monad.{Fun, fact}
 use contract.Running.{givenOf, tables, tablesOf}
 use types.Kit.{Given, ‵, raw, some, later, _⊛_, ⋆, _$_, _∵_, !, qed, by, move, keep, drop, group, use1, split, join, pick, fsplit, fjoin, feqL, suffices, frame, await, done}
-use types.Run.{look, init, forget, stop, hop, fld, from, load, addr, of-opd, and-then, no-more, assigns, land, returns, enter, alloc1, alloc0, params1, pass1, pass0, free1, free0}
+use types.Run.{look, init, stop, hop, fld, from, load, addr, of-opd, and-then, no-more, assigns, land, returns, enter, params1, pass1, pass0}
 use types.Part.{agg, whole, sub, look-in}
 use sound.WpLaws.{FmC, fmOf, WpFn-mono}
 use denote.RattleType.{owns}
@@ -42,6 +42,7 @@ use Rattle.lexer.specs.declared.Prefix.{Prefix}
 use Rattle.clause.specs.declared.ClauseRecord.{ClauseRecord}
 use Rattle.reader.specs.declared.LineAnswer.{LineAnswer}
 use Rattle.reader.specs.Calls.{lineGives, lineWithin}
+use Rattle.reader.proofs.Locals.{allocs-all, frees-behind}
 use Rattle.lexer.proofs.Language as LG
 use Rattle.lexer.proofs.Language.Laws as LG′
 use Rattle.lexer.proofs.Prefix as PX
@@ -160,8 +161,7 @@ module _ {M : Type 1} (𝓤 : URA M) (H : Heap 𝓤) (A : Atoms 𝓤) (W : Given
     walk =
         qed W ((‵ (flft κb qb) ⊛ (‵ (flft κn qn) ⊛ (‵ (flft κt qt) ⊛ (‵ (flft κm qm) ⊛ (‵ (flft κr qr) ⊛ ‵ ftrue))))) ∷ ‵ (owns (LG.the-row ∷ PX.the-row ∷ ShrSlice (named 0) κb u8 ∷ ShrSlice (named 1) κn u8 ∷ MutSlice (named 2) κt u8 ∷ MutSlice (named 3) κm u16 ∷ MutSlice (named 4) κr T.the-row ∷ []) a vals) ∷ []) ∵
         enter ! C Λ code.function (vl ∷ vp ∷ sb ∷ sn ∷ st ∷ sm ∷ sr ∷ []) _ $
-        alloc1 ! (λ l0. alloc1 ! (λ l1. alloc1 ! (λ l2. alloc1 ! (λ l3. alloc1 ! (λ l4. alloc1 ! (λ l5. alloc1 ! (λ l6. alloc1 ! (λ l7. alloc1 ! (λ l8. alloc1 ! (λ l9. alloc1 ! (λ l10. alloc1 ! (λ l11. alloc1 ! (λ l12. alloc1 ! (λ l13. alloc1 ! (λ l14.
-        alloc0 ! $ params1 ! $ pass1 ! (init ! 26 refl (EL.lawful LG.the-type LG′.the-laws 𝓤 H A W tt .typed l _ is-l .0)) $
+        allocs-all ! (λ l0 l1 l2 l3 l4 l5 l6 l7 l8 l9 l10 l11 l12 l13 l14. params1 ! $ pass1 ! (init ! 26 refl (EL.lawful LG.the-type LG′.the-laws 𝓤 H A W tt .typed l _ is-l .0)) $
         pass1 ! (init ! 24 refl (EL.lawful PX.the-type PX′.the-laws 𝓤 H A W tt .typed p _ is-p .0)) $ pass1 ! (init ! 22 refl (tt, (tt, (record { fits = room-b .0 }, tt)))) $
         pass1 ! (init ! 20 refl (tt, (tt, (record { fits = room-n .0 }, tt)))) $ pass1 ! (init ! 18 refl (tt, (tt, (record { fits = room-t .0 }, tt)))) $
         pass1 ! (init ! 16 refl (tt, (tt, (record { fits = room-m .0 }, tt)))) $ pass1 ! (init ! 14 refl (tt, (tt, (record { fits = room-r .0 }, tt)))) $ pass0 ! $
@@ -186,10 +186,8 @@ module _ {M : Type 1} (𝓤 : URA M) (H : Heap 𝓤) (A : Atoms 𝓤) (W : Given
         land ! (from ! (stop !)) (init ! 41 refl (EL.lawful LA.the-type LA′.the-laws 𝓤 H A W tt .typed r _ is-r .0)) $
         -- [answer; tr; true4; tm; tt; tn; tb; finR; true3; finM; finT; true2; true1; cells]
         returns ! (look ! 41 refl) $
-        forget ! 41 refl $ forget ! 39 refl $ forget ! 37 refl $ forget ! 35 refl $ forget ! 33 refl $ forget ! 31 refl $ forget ! 29 refl $ forget ! 27 refl $ forget ! 25 refl $ forget ! 23 refl $ forget ! 21 refl $ forget ! 19 refl $ forget ! 17 refl $ forget ! 15 refl $ forget ! 13 refl $
-        move ! (41 ∷ 42 ∷ []) $ free1 ! $ move ! (39 ∷ 40 ∷ []) $ free1 ! $ move ! (37 ∷ 38 ∷ []) $ free1 ! $ move ! (35 ∷ 36 ∷ []) $ free1 ! $ move ! (33 ∷ 34 ∷ []) $ free1 ! $ move ! (31 ∷ 32 ∷ []) $ free1 ! $ move ! (29 ∷ 30 ∷ []) $ free1 ! $ move ! (27 ∷ 28 ∷ []) $ free1 ! $ move ! (25 ∷ 26 ∷ []) $ free1 ! $ move ! (23 ∷ 24 ∷ []) $ free1 ! $ move ! (21 ∷ 22 ∷ []) $ free1 ! $ move ! (19 ∷ 20 ∷ []) $ free1 ! $ move ! (17 ∷ 18 ∷ []) $ free1 ! $ move ! (15 ∷ 16 ∷ []) $ free1 ! $ move ! (13 ∷ 14 ∷ []) $ free1 ! $
-        free0 ! $
-        keep ! (6 ∷ 5 ∷ 4 ∷ 3 ∷ 1 ∷ 10 ∷ 9 ∷ 7 ∷ 0 ∷ []) $ by ! (exits r w (zs .1 .1 .1 .1 .0) (zs .1 .1 .1 .1 .1 .0) (zs .1 .1 .1 .1 .1 .1 .1 .0) e lenT lenM lenR))))))))))))))))))))))))
+        frees-behind ! 13 (_ ∷ _ ∷ _ ∷ _ ∷ _ ∷ _ ∷ _ ∷ _ ∷ _ ∷ _ ∷ _ ∷ _ ∷ _ ∷ _ ∷ _ ∷ []) refl $
+        keep ! (6 ∷ 5 ∷ 4 ∷ 3 ∷ 1 ∷ 10 ∷ 9 ∷ 7 ∷ 0 ∷ []) $ by ! (exits r w (zs .1 .1 .1 .1 .0) (zs .1 .1 .1 .1 .1 .0) (zs .1 .1 .1 .1 .1 .1 .1 .0) e lenT lenM lenR))))))))))
 
 module _ {M : Type 1} (𝓤 : URA M) (H : Heap 𝓤) (A : Atoms 𝓤) (W : Given 𝓤 H A) (mem : Memory → SProp 𝓤) (run : Routine → Fun 𝓤) where
   f-walks : (C : Calls 𝓤 H) (Λ : Loops 𝓤 H) → FmC 𝓤 H (W .laws) C → Triple 𝓤 (C #into) (ReadInto 𝓤 H A mem run) → Walks 𝓤 H A f.ended stayed (WpFn 𝓤 H C Λ code.function) (f.clauses 𝓤 H A mem run)

@@ -19,7 +19,7 @@ use ghost.Atoms.{Atoms, sem}
 use contract.Monad.{Fun, fact}
 use contract.Running.{givenOf, tables, tablesOf}
 use types.Kit.{Given, ‵, raw, some, later, _⊛_, ⋆, _$_, _∵_, !, qed, by, move, keep, drop, group, use1, use2, use3, split, join, pick, rewrite, fsplit, fjoin, feqL, suffices, frame, await, done}
-use types.Run.{look, init, forget, stop, hop, fld, from, load, lit, addr, of-opd, and-then, no-more, assigns, land, returns, enter, alloc1, alloc0, params1, pass1, pass0, free1, free0}
+use types.Run.{look, init, stop, hop, fld, from, load, lit, addr, of-opd, and-then, no-more, assigns, land, returns, enter, params1, pass1, pass0}
 use types.Part.{agg, whole, sub, look-in}
 use types.SemTy.{cells, Arr}
 use types.Tokens.{lft-new, lft-end}
@@ -53,6 +53,7 @@ use Rattle.reader.specs.declared.LineAnswer.{LineAnswer}
 use Rattle.reader.specs.declared.Line512.{Line512}
 use Rattle.reader.specs.Calls.{lineGives, lineWithin}
 use Rattle.reader.proofs.Arrays.{Slots, slots-ty, spelt, mach, typed, laid, raised}
+use Rattle.reader.proofs.Locals.{allocs-all, plant, frees-behind}
 use Rattle.lexer.proofs.Language as LG
 use Rattle.lexer.proofs.Language.Laws as LG′
 use Rattle.lexer.proofs.Prefix as PX
@@ -217,8 +218,7 @@ module _ {M : Type 1} (𝓤 : URA M) (H : Heap 𝓤) (A : Atoms 𝓤) (W : Given
     walk =
         qed W ((‵ (flft κb qb) ⊛ (‵ (flft κn qn) ⊛ (‵ (flft κt qt) ⊛ (‵ (flft κm qm) ⊛ ‵ ftrue)))) ∷ ‵ (owns (LG.the-row ∷ PX.the-row ∷ ShrSlice (named 0) κb u8 ∷ ShrSlice (named 1) κn u8 ∷ MutSlice (named 2) κt u8 ∷ MutSlice (named 3) κm u16 ∷ usize ∷ Slots ∷ []) a vals) ∷ []) ∵
         enter ! C Λ code.function (vl ∷ vp ∷ sb ∷ sn ∷ st ∷ sm ∷ vint w64 k ∷ v ∷ []) _ $
-        alloc1 ! (λ l0. alloc1 ! (λ l1. alloc1 ! (λ l2. alloc1 ! (λ l3. alloc1 ! (λ l4. alloc1 ! (λ l5. alloc1 ! (λ l6. alloc1 ! (λ l7. alloc1 ! (λ l8. alloc1 ! (λ l9. alloc1 ! (λ l10. alloc1 ! (λ l11. alloc1 ! (λ l12. alloc1 ! (λ l13. alloc1 ! (λ l14. alloc1 ! (λ l15. alloc1 ! (λ l16. alloc1 ! (λ l17. alloc1 ! (λ l18.
-        alloc0 ! $ params1 ! $ pass1 ! (init ! 34 refl (EL.lawful LG.the-type LG′.the-laws 𝓤 H A W tt .typed l _ is-l .0)) $
+        allocs-all ! (λ l0 l1 l2 l3 l4 l5 l6 l7 l8 l9 l10 l11 l12 l13 l14 l15 l16 l17 l18. params1 ! $ pass1 ! (init ! 34 refl (EL.lawful LG.the-type LG′.the-laws 𝓤 H A W tt .typed l _ is-l .0)) $
         pass1 ! (init ! 32 refl (EL.lawful PX.the-type PX′.the-laws 𝓤 H A W tt .typed p _ is-p .0)) $ pass1 ! (init ! 30 refl (tt, (tt, (record { fits = room-b .0 }, tt)))) $
         pass1 ! (init ! 28 refl (tt, (tt, (record { fits = room-n .0 }, tt)))) $ pass1 ! (init ! 26 refl (tt, (tt, (record { fits = room-t .0 }, tt)))) $
         pass1 ! (init ! 24 refl (tt, (tt, (record { fits = room-m .0 }, tt)))) $ pass1 ! (init ! 22 refl (tt, record { fits = k-fits })) $ pass1 ! (init ! 20 refl (typed 𝓤 H A W xs v is-xs)) $
@@ -271,10 +271,9 @@ module _ {M : Type 1} (𝓤 : URA M) (H : Heap 𝓤) (A : Atoms 𝓤) (W : Given
         land ! (from ! (stop !)) (init ! 49 refl (LL.lawful Q.the-type Q′.the-laws 𝓤 H A W .typed q _ is-q .0)) $
         -- [pair; true6; true5; tm; tt; tn; tb; true4; finM; finT; true3; true2; true1; cells]
         returns ! (look ! 49 refl) $
-        forget ! 49 refl $ forget ! 47 refl $ forget ! 45 refl $ forget ! 43 refl $ forget ! 41 refl $ forget ! 39 refl $ forget ! 37 refl $ forget ! 35 refl $ forget ! 33 refl $ forget ! 2 refl $ forget ! 30 refl $ forget ! 28 refl $ forget ! 26 refl $ forget ! 24 refl $ forget ! 22 refl $ forget ! 20 refl $ forget ! 18 refl $ forget ! 16 refl $ forget ! 14 refl $
-        move ! (49 ∷ 50 ∷ []) $ free1 ! $ move ! (47 ∷ 48 ∷ []) $ free1 ! $ move ! (45 ∷ 46 ∷ []) $ free1 ! $ move ! (43 ∷ 44 ∷ []) $ free1 ! $ move ! (41 ∷ 42 ∷ []) $ free1 ! $ move ! (39 ∷ 40 ∷ []) $ free1 ! $ move ! (37 ∷ 38 ∷ []) $ free1 ! $ move ! (35 ∷ 36 ∷ []) $ free1 ! $ move ! (33 ∷ 34 ∷ []) $ free1 ! $ move ! (2 ∷ 32 ∷ []) $ free1 ! $ move ! (29 ∷ 30 ∷ []) $ free1 ! $ move ! (27 ∷ 28 ∷ []) $ free1 ! $ move ! (25 ∷ 26 ∷ []) $ free1 ! $ move ! (23 ∷ 24 ∷ []) $ free1 ! $ move ! (21 ∷ 22 ∷ []) $ free1 ! $ move ! (19 ∷ 20 ∷ []) $ free1 ! $ move ! (17 ∷ 18 ∷ []) $ free1 ! $ move ! (15 ∷ 16 ∷ []) $ free1 ! $ move ! (13 ∷ 14 ∷ []) $ free1 ! $
-        free0 ! $
-        keep ! (6 ∷ 5 ∷ 4 ∷ 3 ∷ 9 ∷ 8 ∷ 0 ∷ []) $ by ! (exits q w₃ (zs .1 .1 .1 .1 .0) (zs .1 .1 .1 .1 .1 .0) (gives m r (zs .1 .1 .1 .1 .0) (zs .1 .1 .1 .1 .1 .0) (zs .1 .1 .1 .1 .1 .1 .1 .0) q e e₂ e₃) lenT lenM)))))))))))))))))))))))))))))))))))))))
+        -- the array goes back among the locals, and all are freed
+        move ! (2 ∷ []) $ plant ! 31 $ frees-behind ! 13 (_ ∷ _ ∷ _ ∷ _ ∷ _ ∷ _ ∷ _ ∷ _ ∷ _ ∷ _ ∷ _ ∷ _ ∷ _ ∷ _ ∷ _ ∷ _ ∷ _ ∷ _ ∷ _ ∷ []) refl $
+        keep ! (6 ∷ 5 ∷ 4 ∷ 3 ∷ 9 ∷ 8 ∷ 0 ∷ []) $ by ! (exits q w₃ (zs .1 .1 .1 .1 .0) (zs .1 .1 .1 .1 .1 .0) (gives m r (zs .1 .1 .1 .1 .0) (zs .1 .1 .1 .1 .1 .0) (zs .1 .1 .1 .1 .1 .1 .1 .0) q e e₂ e₃) lenT lenM)))))))))))))))))))))
 
 module _ {M : Type 1} (𝓤 : URA M) (H : Heap 𝓤) (A : Atoms 𝓤) (W : Given 𝓤 H A) (mem″ : Memory → SProp 𝓤) (run : Routine → Fun 𝓤) where
   f-walks : (C : Calls 𝓤 H) (Λ : Loops 𝓤 H) → FmC 𝓤 H (W .laws) C → Triple 𝓤 (C #most) (AtMost 𝓤 H A mem″ run) → Triple 𝓤 (C #into) (ReadInto 𝓤 H A mem″ run) → Triple 𝓤 (C #pair) (Pair 𝓤 H A mem″ run)
