@@ -1,6 +1,6 @@
 -- `reader::read_line` meets its contract: a walk of its code by hand. All that is lent goes on to `line::read_into`, with all the record slots.
 -- Assumes nothing.
-use mathlib.Core.Path.{_≡_, refl, _∙_}
+use mathlib.Core.Path.{_≡_, refl}
 use Prim.Native.Nat.{ℕ, _≤_}
 use mathlib.Core.List.{[], _∷_, List}
 use native.Mathlib.Omega.{arith}
