@@ -11,10 +11,12 @@ use lib.Dec.{eqb, ltb}
 use borrow.Author.Tests.{ltb-true, ltb-false}
 use Rattle.ascii.specs.Ascii.{isWord, isDigit, isUpper, within}
 use Rattle.ascii.proofs.Flags.{by-cases, and-left, and-right}
+use Rattle.bookform.specs.declared.Expect.{Expect}
 use Rattle.bookform.specs.declared.Expect.the-variants.{DirectiveLength, DirectiveName, Rule, ClauseLength, ClauseName}
-use Rattle.bookform.specs.Format.{ruleFor, isKnown, clausesLeft, directivesLeft, badFrom}
+use Rattle.bookform.specs.declared.Step.the-variants.{Next}
+use Rattle.bookform.specs.Format.{stepped, ruleFor, isKnown, clausesLeft, directivesLeft, badFrom}
 use Rattle.bookform.specs.Standing.{isCommon, isCommonBehind, stands, Standing, IsName, NameEnds, Passed}
-use Rattle.bookform.proofs.Steps.{at-least, bad-later, name-ends, word-ends}
+use Rattle.bookform.proofs.Steps.{at-least, bad-later}
 
 -- what follows from a test that fails
 pub not-so : {X : Type 0} → false ≡ true → X
@@ -72,57 +74,50 @@ module _ (between : ℕ) (bs : List ℕ) (at : ℕ) where
       rw n at (standing-more between bs at (at + suc (suc k)) (rw e (common-stands between (getD bs (at + suc k) 0) (getD bs (at + suc (suc k)) 0) (and-right (commons (suc k)) (behind (at + suc k) (at + suc (suc k))) h))) (commons-stand (suc k) (and-left (commons (suc k)) (behind (at + suc k) (at + suc (suc k))) h)))
 
 -- a clause's name is one word: what stands between its parts is of the word
-word-of : (before b : ℕ) → stands 95 before b ≡ true → isWord b ≡ true
-word-of before b h = go (isDigit b || (isUpper b || within 97 122 b)) (eqb b 95) (isWord before) h
+word-of : (w : Bool) (b : ℕ) → (isWord b || eqb b 95 && w) ≡ true → isWord b ≡ true
+word-of w b h = go (isDigit b || (isUpper b || within 97 122 b)) (eqb b 95) w h
   where
     go : (w e f : Bool) → (w || e || e && f) ≡ true → (w || e) ≡ true
     go true e f h = refl
     go false true f h = refl
     go false false f h = h
 
-module _ (bs : List ℕ) where
-  -- k bytes of a name behind the first, and its last one, lead to what comes behind it
-  name-passes : (k at to d c : ℕ) → to ≡ at + k + 1 → to ≤ length bs → Standing 32 bs at (at + k) → isWord (getD bs (at + k) 0) ≡ true
-      → badFrom (DirectiveName k (isWord (getD bs (at - 1) 0)) d c) at (drop at bs) ≡ badFrom (directivesLeft d c) to (drop to bs)
-  name-passes zero at to d c e h s l =
+-- Names of both kinds. A state of its own is waited for at each byte, by how many come after it and whether the one before is of a word.
+record Reads (between : ℕ) (state : ℕ → Bool → Expect) (behind : Expect) : Type 0 where
+  goes : (k : ℕ) (w : Bool) (b : ℕ) → (isWord b || eqb b between && w) ≡ true → stepped (state (suc k) w) b ≡ Next (state k (isWord b))
+  ends : (w : Bool) (b : ℕ) → isWord b ≡ true → stepped (state zero w) b ≡ Next behind
+
+directive-reads : (d c : ℕ) → Reads 32 (λ k w. DirectiveName k w d c) (directivesLeft d c)
+directive-reads d c = record { goes = λ k w b t. rw t; ends = λ w b t. rw t }
+
+clause-reads : (c : ℕ) → Reads 95 (λ k w. ClauseName k c) (clausesLeft c)
+clause-reads c = record { goes = λ k w b t. rw (word-of w b t); ends = λ w b t. rw t }
+
+module _ (bs : List ℕ) (between : ℕ) (state : ℕ → Bool → Expect) (behind : Expect) (r : Reads between state behind) where
+  -- k bytes of a name behind its first, and its last one, lead to what comes behind it
+  passes : (k at to : ℕ) → to ≡ at + k + 1 → to ≤ length bs → Standing between bs at (at + k) → isWord (getD bs (at + k) 0) ≡ true
+      → badFrom (state k (isWord (getD bs (at - 1) 0))) at (drop at bs) ≡ badFrom behind to (drop to bs)
+  passes zero at to e h s l =
       let q : to ≡ at + 1 = omega arith in
-      rw q (name-ends bs at (omega arith) (isWord (getD bs (at - 1) 0)) d c (rw (add-zero at) at l))
-  name-passes (suc k) at to d c e h s l =
+      rw q (bad-later bs (state zero (isWord (getD bs (at - 1) 0))) at behind (omega arith) (r .ends (isWord (getD bs (at - 1) 0)) (getD bs at 0) (rw (add-zero at) at l)))
+  passes (suc k) at to e h s l =
       let q : at + suc k ≡ at + 1 + k = omega arith in
       let p : at + 1 - 1 ≡ at = omega arith in
-      bad-later bs (DirectiveName (suc k) (isWord (getD bs (at - 1) 0)) d c) at (DirectiveName k (isWord (getD bs at 0)) d c) (omega arith) (rw (s at (omega arith) (omega arith)) refl)
-      ∙ rw p at (name-passes k (at + 1) to d c (omega arith) h (λ i f g. s i (omega arith) (omega arith)) (rw q at l))
-
-  word-passes : (k at to c : ℕ) → to ≡ at + k + 1 → to ≤ length bs → Standing 95 bs at (at + k) → isWord (getD bs (at + k) 0) ≡ true
-      → badFrom (ClauseName k c) at (drop at bs) ≡ badFrom (clausesLeft c) to (drop to bs)
-  word-passes zero at to c e h s l =
-      let q : to ≡ at + 1 = omega arith in
-      rw q (word-ends bs at (omega arith) c (rw (add-zero at) at l))
-  word-passes (suc k) at to c e h s l =
-      let q : at + suc k ≡ at + 1 + k = omega arith in
-      bad-later bs (ClauseName (suc k) c) at (ClauseName k c) (omega arith) (rw (word-of (getD bs (at - 1) 0) (getD bs at 0) (s at (omega arith) (omega arith))) refl)
-      ∙ word-passes k (at + 1) to c (omega arith) h (λ i f g. s i (omega arith) (omega arith)) (rw q at l)
+      bad-later bs (state (suc k) (isWord (getD bs (at - 1) 0))) at (state k (isWord (getD bs at 0))) (omega arith) (r .goes k (isWord (getD bs (at - 1) 0)) (getD bs at 0) (s at (omega arith) (omega arith)))
+      ∙ rw p at (passes k (at + 1) to (omega arith) h (λ i f g. s i (omega arith) (omega arith)) (rw q at l))
 
   -- a whole name
-  name-whole : (k at to d c : ℕ) → to ≡ at + k + 1 → to ≤ length bs → IsName 32 bs at to → badFrom (DirectiveName k false d c) at (drop at bs) ≡ badFrom (directivesLeft d c) to (drop to bs)
-  name-whole zero at to d c e h n =
+  whole : (k at to : ℕ) → to ≡ at + k + 1 → to ≤ length bs → IsName between bs at to → badFrom (state k false) at (drop at bs) ≡ badFrom behind to (drop to bs)
+  whole zero at to e h n =
       let q : to ≡ at + 1 = omega arith in
-      rw q (name-ends bs at (omega arith) false d c (n .first))
-  name-whole (suc k) at to d c e h n =
+      rw q (bad-later bs (state zero false) at behind (omega arith) (r .ends false (getD bs at 0) (n .first)))
+  whole (suc k) at to e h n =
       let q : to - 1 ≡ at + 1 + k = omega arith in
       let p : at + 1 - 1 ≡ at = omega arith in
-      bad-later bs (DirectiveName (suc k) false d c) at (DirectiveName k (isWord (getD bs at 0)) d c) (omega arith) (rw (n .first) refl)
-      ∙ rw p at (name-passes k (at + 1) to d c (omega arith) h (λ i f g. n .inner i f (omega arith)) (rw q at (n .last)))
+      bad-later bs (state (suc k) false) at (state k (isWord (getD bs at 0))) (omega arith) (r .goes k false (getD bs at 0) (rw (n .first)))
+      ∙ rw p at (passes k (at + 1) to (omega arith) h (λ i f g. n .inner i f (omega arith)) (rw q at (n .last)))
 
-  word-whole : (k at to c : ℕ) → to ≡ at + k + 1 → to ≤ length bs → IsName 95 bs at to → badFrom (ClauseName k c) at (drop at bs) ≡ badFrom (clausesLeft c) to (drop to bs)
-  word-whole zero at to c e h n =
-      let q : to ≡ at + 1 = omega arith in
-      rw q (word-ends bs at (omega arith) c (n .first))
-  word-whole (suc k) at to c e h n =
-      let q : to - 1 ≡ at + 1 + k = omega arith in
-      bad-later bs (ClauseName (suc k) c) at (ClauseName k c) (omega arith) (rw (n .first) refl)
-      ∙ word-passes k (at + 1) to c (omega arith) h (λ i f g. n .inner i f (omega arith)) (rw q at (n .last))
-
+module _ (bs : List ℕ) where
   -- an entry is passed
   pub directive-passed : (at end : ℕ) → NameEnds 32 at end bs → Passed 0 at end bs
   directive-passed at end h =
@@ -132,7 +127,7 @@ module _ (bs : List ℕ) where
       record {
         within = l;
         same = λ n c. bad-later bs (DirectiveLength n c) at (DirectiveName (getD bs at 0 - 1) false n c) (omega arith) (rw (h .sized) refl)
-            ∙ name-whole (getD bs at 0 - 1) (at + 1) end n c (omega arith) l (h .name);
+            ∙ whole bs 32 (λ k w. DirectiveName k w n c) (directivesLeft n c) (directive-reads n c) (getD bs at 0 - 1) (at + 1) end (omega arith) l (h .name);
       }
 
   pub clause-passed : (at end : ℕ) → isKnown (ruleFor (getD bs at 0)) ≡ true → NameEnds 95 (at + 1) end bs → Passed 1 at end bs
@@ -144,5 +139,5 @@ module _ (bs : List ℕ) where
         within = l;
         same = λ n c. bad-later bs (Rule n) at (ClauseLength n) (omega arith) (rw k refl)
             ∙ bad-later bs (ClauseLength n) (at + 1) (ClauseName (getD bs (at + 1) 0 - 1) n) (omega arith) (rw (h .sized) refl)
-            ∙ word-whole (getD bs (at + 1) 0 - 1) (at + 1 + 1) end n (omega arith) l (h .name);
+            ∙ whole bs 95 (λ k w. ClauseName k n) (clausesLeft n) (clause-reads n) (getD bs (at + 1) 0 - 1) (at + 1 + 1) end (omega arith) l (h .name);
       }

@@ -62,11 +62,3 @@ module _ (bs : List ℕ) (e : Expect) (at : ℕ) where
   pub bad-end : length bs ≤ at → badFrom e at (drop at bs) ≡ endedAt e at
   unfolding badFrom
   bad-end h = rw (drop-of-length-le bs h)
-
--- the last byte of a name
-module _ (bs : List ℕ) (at : ℕ) (h : at < length bs) where
-  pub name-ends : (w : Bool) (d c : ℕ) → isWord (getD bs at 0) ≡ true → badFrom (DirectiveName 0 w d c) at (drop at bs) ≡ badFrom (directivesLeft d c) (at + 1) (drop (at + 1) bs)
-  name-ends w d c t = bad-later bs _ at _ h (rw t)
-
-  pub word-ends : (c : ℕ) → isWord (getD bs at 0) ≡ true → badFrom (ClauseName 0 c) at (drop at bs) ≡ badFrom (clausesLeft c) (at + 1) (drop (at + 1) bs)
-  word-ends c t = bad-later bs _ at _ h (rw t)
