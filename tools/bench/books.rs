@@ -12,6 +12,8 @@ pub fn rows(report: &Report, folder: &str) {
     row(report, "book full, names of one length", &book(255, 255, |i| format!("directive_name_{i:03}")));
     row(report, "book full, names of 64 differ first", &book(255, 255, |i| format!("{i:03}{}", "x".repeat(61))));
     row(report, "book full, names of 64 differ in the middle", &book(255, 255, |i| format!("{}{i:03}{}", "x".repeat(30), "x".repeat(31))));
+    row(report, "book full, names in upper case", &book(255, 255, |i| typical_name(i).to_uppercase()));
+    row(report, "book full, one signature, mixed case", &book(255, 255, mixed_name));
     let openmp = openmp_book(folder);
     row(report, "book openmp.drb", &openmp);
     report.heading("500 clauses with a book's last name beside its first; as bytes count the entries between", "first ns");
@@ -30,6 +32,13 @@ fn typical_name(i: usize) -> String {
     };
     let stem: String = (0..2 + i % 16).map(|_| letter()).collect();
     format!("{stem}{}{}", (b'a' + (i / 26) as u8) as char, (b'a' + (i % 26) as u8) as char)
+}
+
+/// Names of 64 letters with the same sum and the same sum of sums, which differ in their first half and in the case of their letters.
+fn mixed_name(i: usize) -> String {
+    let letters = (0..16).flat_map(|block| if i >> block & 1 == 0 { ['a', 'b', 'b', 'a'] } else { ['b', 'a', 'a', 'b'] });
+    let cased = letters.enumerate().map(|(place, letter)| if (i + place) % 3 == 0 { letter.to_ascii_uppercase() } else { letter });
+    cased.collect()
 }
 
 /// A book with the same names for directives and for clauses, as far as each kind goes.

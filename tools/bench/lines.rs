@@ -2,14 +2,28 @@
 
 use crate::answer::{Lent, head};
 use crate::book::{Book, Shelf};
-use crate::lexer::{Language, LogicalSource, lex_dialect_keyword, lex_pragma, skip_space_and_comments, skip_space1_and_comments};
+use crate::lexer::{
+    Language, LogicalSource, lex_dialect_keyword, lex_fortran_free_sentinel_with_prefix, lex_pragma, skip_fortran_space1_and_comments,
+    skip_space_and_comments, skip_space1_and_comments,
+};
 use crate::request::{Joining, Request};
-use crate::sequences::{TYPICAL, listed, openmp_book, small_book, typical_book};
+use crate::sequences::{TYPICAL, listed, openmp_book, small_book, typical_book, with_flags};
 use crate::{Report, calls, ours};
 use std::hint::black_box;
 
 const SIZES: [usize; 3] = [60, 400, 4_000];
-const OPENING: &str = "#pragma omp parallel for";
+
+/// What a line is written in, by our number and the Rust's name.
+#[derive(Clone, Copy)]
+struct Form {
+    number: u32,
+    language: Language,
+    opening: &'static str,
+}
+
+const C: Form = Form { number: ours::C, language: Language::C, opening: "#pragma omp parallel for" };
+const FREE: Form = Form { number: ours::FORTRAN_FREE, language: Language::FortranFree, opening: "!$omp parallel for" };
+const RUN_TOGETHER: Form = Form { opening: "!$omp parallelfor", ..FREE };
 
 /// Lines in a call that reads many.
 const MANY: usize = 100;
@@ -19,25 +33,36 @@ pub fn rows(report: &Report, folder: &str) {
     report.heading("whole line against the Rust's steps, one line a call, registries built once", "Rust ns");
     for (title, book) in &books {
         for bytes in SIZES {
-            row(report, &format!("line {bytes}, not broken, {title}"), book, &directive(bytes, 0));
+            row(report, &format!("line {bytes}, not broken, {title}"), book, &directive(C, bytes, 0));
             row(report, &format!("line {bytes}, broken, {title}"), book, &broken(bytes, 0));
         }
     }
     for bytes in SIZES {
-        spare_row(report, &format!("line {bytes}, small book, 512 record slots"), &books[0].1, &directive(bytes, 0));
+        spare_row(report, &format!("line {bytes}, small book, 512 record slots"), &books[0].1, &directive(C, bytes, 0));
     }
     report.heading("the same by the line, 100 lines a call under one check of the book", "Rust ns");
     for (title, book) in &books {
         for bytes in SIZES {
-            many_row(report, &format!("lines {bytes}, not broken, {title}"), book, |turn| directive(bytes, turn));
-            many_row(report, &format!("lines {bytes}, broken, {title}"), book, |turn| broken(bytes, turn));
+            many_row(report, &format!("lines {bytes}, not broken, {title}"), C, book, |turn| directive(C, bytes, turn));
+            many_row(report, &format!("lines {bytes}, broken, {title}"), C, book, |turn| broken(bytes, turn));
         }
+    }
+    report.heading("the same in free form, written in upper case, names read with case ignored", "Rust ns");
+    let book = with_flags(openmp_book(folder), 1);
+    let blanks_optional = with_flags(openmp_book(folder), 3);
+    for bytes in SIZES {
+        many_row(report, &format!("lines {bytes}, case ignored, openmp.drb"), FREE, &book, |turn| directive(FREE, bytes, turn).to_uppercase());
+    }
+    for bytes in [60, 400] {
+        many_row(report, &format!("lines {bytes}, words run together, openmp.drb"), RUN_TOGETHER, &blanks_optional, |turn| {
+            directive(RUN_TOGETHER, bytes, turn).to_uppercase()
+        });
     }
 }
 
 /// A directive of so many bytes: as many whole clauses as fit, the first by the turn, and blanks.
-fn directive(bytes: usize, turn: usize) -> String {
-    let mut text = String::from(OPENING);
+fn directive(form: Form, bytes: usize, turn: usize) -> String {
+    let mut text = String::from(form.opening);
     for clause in TYPICAL.iter().cycle().skip(turn % TYPICAL.len()) {
         if text.len() + 1 + clause.len() > bytes {
             break;
@@ -52,20 +77,29 @@ fn directive(bytes: usize, turn: usize) -> String {
 fn broken(bytes: usize, turn: usize) -> String {
     let line = 80.min(bytes / 2);
     let breaks = (bytes - 1) / line;
-    let text = directive(bytes - 2 * breaks, turn);
+    let text = directive(C, bytes - 2 * breaks, turn);
     let (before, last) = text.split_at(breaks * (line - 2));
     let parts = (0..breaks).map(|i| before[i * (line - 2)..(i + 1) * (line - 2)].to_string() + "\\\n");
     parts.chain([last.to_string()]).collect()
 }
 
-/// The Rust's steps, each as published: the number of clauses.
-fn theirs(book: &Book, line: &str) -> Option<usize> {
-    let source = LogicalSource::new(line, Language::C, "omp").ok()?;
-    let rest = skip_space_and_comments(source.text()).ok()?.0;
+/// The Rust's opening words of a line, each step as published: what stands behind them.
+fn opened(form: Form, text: &str) -> Option<&str> {
+    if form.language != Language::C {
+        let rest = lex_fortran_free_sentinel_with_prefix(text, "omp").ok()?.0;
+        return Some(skip_fortran_space1_and_comments(rest).ok()?.0);
+    }
+    let rest = skip_space_and_comments(text).ok()?.0;
     let rest = lex_pragma(rest).ok()?.0;
     let rest = skip_space1_and_comments(rest).ok()?.0;
     let rest = lex_dialect_keyword(rest, "omp").ok()?.0;
-    let rest = skip_space1_and_comments(rest).ok()?.0;
+    Some(skip_space1_and_comments(rest).ok()?.0)
+}
+
+/// The Rust's steps, each as published: the number of clauses.
+fn theirs(form: Form, book: &Book, line: &str) -> Option<usize> {
+    let source = LogicalSource::new(line, form.language, "omp").ok()?;
+    let rest = opened(form, source.text())?;
     let (rest, name) = book.directive_registry.lex_name(rest).ok()?;
     black_box(&name);
     let (_, clauses) = book.clause_registry.parse_sequence(rest).ok()?;
@@ -90,8 +124,8 @@ impl Slots {
         }
     }
 
-    fn read(&mut self, book: &[u8], line: &str) -> u64 {
-        ours::line(book, line.as_bytes(), &mut self.text, &mut self.map, &mut self.records, &mut self.reading)
+    fn read(&mut self, form: Form, book: &[u8], line: &str) -> u64 {
+        ours::line(form.number, book, line.as_bytes(), &mut self.text, &mut self.map, &mut self.records, &mut self.reading)
     }
 
     /// An answer with what the slots hold, as the oracle writes it.
@@ -105,14 +139,14 @@ impl Slots {
 }
 
 /// The slots of a line and our answer to it, which is the oracle's.
-fn answered(book: &[u8], line: &str, shelf: &mut Shelf) -> (Slots, u64) {
-    let count = theirs(shelf.book(book).expect("a valid book"), line).expect("a line that is read");
+fn answered(form: Form, book: &[u8], line: &str, shelf: &mut Shelf) -> (Slots, u64) {
+    let count = theirs(form, shelf.book(book).expect("a valid book"), line).expect("a line that is read");
     let joining =
-        Joining { language: Language::C, prefix: "omp", text_slots: line.len(), map_slots: line.len() + 1, line: line.as_bytes().to_vec() };
+        Joining { language: form.language, prefix: "omp", text_slots: line.len(), map_slots: line.len() + 1, line: line.as_bytes().to_vec() };
     let request = Request::Line { joining, record_slots: count, book: book.to_vec() };
     let expected = calls::answer(&request, shelf).expect("an oracle that agrees with itself");
     let mut slots = Slots::new(line, count);
-    let answer = slots.read(book, line);
+    let answer = slots.read(form, book, line);
     assert_eq!(slots.written(answer), expected, "{line}");
     (slots, answer)
 }
@@ -122,9 +156,9 @@ fn row(report: &Report, name: &str, book: &[u8], line: &str) {
         return;
     }
     let mut shelf = Shelf::default();
-    let (mut slots, _) = answered(book, line, &mut shelf);
+    let (mut slots, _) = answered(C, book, line, &mut shelf);
     let registries = shelf.book(book).expect("a valid book");
-    report.row(name, line.len(), || slots.read(book, black_box(line)) as usize, || theirs(registries, black_box(line)).unwrap_or(0));
+    report.row(name, line.len(), || slots.read(C, book, black_box(line)) as usize, || theirs(C, registries, black_box(line)).unwrap_or(0));
 }
 
 /// The same with 512 record slots, or as many as there are clauses if these are more; the Rust's caller clears as many.
@@ -133,22 +167,22 @@ fn spare_row(report: &Report, name: &str, book: &[u8], line: &str) {
         return;
     }
     let mut shelf = Shelf::default();
-    let (mut slots, answer) = answered(book, line, &mut shelf);
+    let (mut slots, answer) = answered(C, book, line, &mut shelf);
     let (read, reading) = (slots.records.clone(), slots.reading);
     let spare = 512usize.saturating_sub(read.len());
     slots.records = vec![ours::ClauseRecord::BEFORE; read.len() + spare];
-    assert_eq!((slots.read(book, line), slots.reading), (answer, reading), "{name}");
+    assert_eq!((slots.read(C, book, line), slots.reading), (answer, reading), "{name}");
     assert_eq!(listed(&slots.records[..read.len()]), listed(&read), "{name}");
     assert_eq!(listed(&slots.records[read.len()..]), format!("+{spare}"), "{name}");
     let mut cleared = slots.records.clone();
     let registries = shelf.book(book).expect("a valid book");
-    report.row(name, line.len(), || slots.read(book, black_box(line)) as usize, || {
+    report.row(name, line.len(), || slots.read(C, book, black_box(line)) as usize, || {
         black_box(&mut cleared).fill(ours::ClauseRecord::BEFORE);
-        theirs(registries, black_box(line)).unwrap_or(0)
+        theirs(C, registries, black_box(line)).unwrap_or(0)
     });
 }
 
-fn many_row(report: &Report, name: &str, book: &[u8], line: impl Fn(usize) -> String) {
+fn many_row(report: &Report, name: &str, form: Form, book: &[u8], line: impl Fn(usize) -> String) {
     if !report.wants(name) {
         return;
     }
@@ -156,10 +190,10 @@ fn many_row(report: &Report, name: &str, book: &[u8], line: impl Fn(usize) -> St
     let lines: Vec<String> = (0..MANY).map(line).collect();
     let (bytes, whole) = (lines[0].len(), lines.concat());
     let ends: Vec<usize> = lines.iter().scan(0, |end, line| { *end += line.len(); Some(*end) }).collect();
-    let read: Vec<(Slots, u64)> = lines.iter().map(|line| answered(book, line, &mut shelf)).collect();
+    let read: Vec<(Slots, u64)> = lines.iter().map(|line| answered(form, book, line, &mut shelf)).collect();
     let room = read.iter().map(|(slots, _)| slots.records.len()).max().unwrap_or(0);
     let (mut text, mut map, mut answers) = (vec![170u8; bytes], vec![43_690u16; bytes + 1], vec![[u64::MAX; 5]; MANY]);
-    assert_eq!(ours::lines(book, whole.as_bytes(), &ends, &mut text, &mut map, room, &mut answers) as usize, MANY, "{name}");
+    assert_eq!(ours::lines(form.number, book, whole.as_bytes(), &ends, &mut text, &mut map, room, &mut answers) as usize, MANY, "{name}");
     let expected = read.iter().map(|(slots, answer)| [*answer, slots.reading[0], slots.reading[1], slots.reading[2], slots.reading[3]]);
     assert!(answers.iter().copied().eq(expected), "{name}");
     assert!(text.iter().all(|&slot| slot == 0) && map.iter().all(|&slot| slot == 0), "{name}");
@@ -168,7 +202,7 @@ fn many_row(report: &Report, name: &str, book: &[u8], line: impl Fn(usize) -> St
         name,
         bytes,
         MANY,
-        || ours::lines(book, black_box(whole.as_bytes()), &ends, &mut text, &mut map, room, &mut answers) as usize,
-        || lines.iter().map(|line| theirs(registries, black_box(line)).unwrap_or(0)).sum(),
+        || ours::lines(form.number, book, black_box(whole.as_bytes()), &ends, &mut text, &mut map, room, &mut answers) as usize,
+        || lines.iter().map(|line| theirs(form, registries, black_box(line)).unwrap_or(0)).sum(),
     );
 }

@@ -137,11 +137,11 @@ pub fn sequence(book: &[u8], text: &[u8], records: &mut [ClauseRecord], rest: &m
     unsafe { pelzurda_sequence(book.as_ptr(), book.len(), text.as_ptr(), text.len(), records.as_mut_ptr(), records.len(), rest) }
 }
 
-/// In C, with the prefix omp.
-pub fn line(book: &[u8], line: &[u8], text: &mut [u8], map: &mut [u16], records: &mut [ClauseRecord], reading: &mut [u64; 4]) -> u64 {
+/// With the prefix omp.
+pub fn line(language: u32, book: &[u8], line: &[u8], text: &mut [u8], map: &mut [u16], records: &mut [ClauseRecord], reading: &mut [u64; 4]) -> u64 {
     unsafe {
         pelzurda_line(
-            C,
+            language,
             0,
             book.as_ptr(),
             book.len(),
@@ -158,11 +158,20 @@ pub fn line(book: &[u8], line: &[u8], text: &mut [u8], map: &mut [u16], records:
     }
 }
 
-/// In C, with the prefix omp.
-pub fn lines(book: &[u8], lines: &[u8], ends: &[usize], text: &mut [u8], map: &mut [u16], slots: usize, answers: &mut [[u64; 5]]) -> u64 {
+/// With the prefix omp.
+pub fn lines(
+    language: u32,
+    book: &[u8],
+    lines: &[u8],
+    ends: &[usize],
+    text: &mut [u8],
+    map: &mut [u16],
+    slots: usize,
+    answers: &mut [[u64; 5]],
+) -> u64 {
     unsafe {
         pelzurda_lines(
-            C,
+            language,
             0,
             book.as_ptr(),
             book.len(),

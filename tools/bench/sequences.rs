@@ -33,6 +33,12 @@ pub fn openmp_book(folder: &str) -> Vec<u8> {
     std::fs::read(format!("{folder}/openmp.drb")).expect("books/openmp.drb")
 }
 
+/// The book with other flags: 1 ignores case, 2 lets words run together.
+pub fn with_flags(mut book: Vec<u8>, flags: u8) -> Vec<u8> {
+    book[5] = flags;
+    book
+}
+
 /// Of the OpenMP names 40 directives and 60 clauses, at even distances, with those that the texts here have.
 pub fn typical_book(folder: &str) -> Vec<u8> {
     let whole = openmp_book(folder);
@@ -91,6 +97,11 @@ pub fn rows(report: &Report, folder: &str) {
             many_row(report, &format!("sequences {count}, {title}"), book, |turn| clauses(&TYPICAL, turn, count, " "), count);
         }
         many_row(report, &format!("sequences 4000, {title}"), book, |_| clauses(&SHORT, 0, 4_000, ""), 4_000);
+    }
+    report.heading("the same, written in upper case, names read with case ignored", "Rust ns");
+    let book = with_flags(openmp_book(folder), 1);
+    for count in [1, 10, 500] {
+        many_row(report, &format!("sequences {count}, case ignored, openmp.drb"), &book, |turn| clauses(&TYPICAL, turn, count, " ").to_uppercase(), count);
     }
     report.heading("what one check costs: a clause sequence a call, book checked in it, beside parse_sequence of a registry built before", "Rust ns");
     for (title, book) in &books {

@@ -6,16 +6,16 @@ use mathlib.Core.List.{List, [], _∷_}
 use Prim.Native.Nat.{ℕ, _<_}
 use lib.ListN.{getD}
 use lib.Dec.{eqb, leb}
-use Rattle.ascii.specs.Ascii.{within, classOf, isTrimmed, isSpace, isBlank, isEol, isDigit, isUpper, isLetter, isWord}
+use Rattle.ascii.specs.Ascii.{within, classOf, isTrimmed, isSpace, isBlank, isEol, isDigit, isWord}
 use Rattle.ascii.proofs.Table.{agree, values}
 
 -- the questions by class k
 abbrev byClass : ℕ → List Bool
-byClass k = within 1 4 k ∷ within 1 3 k ∷ eqb k 1 ∷ eqb k 2 ∷ eqb k 5 ∷ eqb k 6 ∷ within 6 7 k ∷ leb 5 k ∷ []
+byClass k = within 1 4 k ∷ within 1 3 k ∷ eqb k 1 ∷ eqb k 2 ∷ eqb k 5 ∷ leb 5 k ∷ []
 
 -- the questions as document 01 puts them
 abbrev byByte : ℕ → List Bool
-byByte b = isTrimmed b ∷ isSpace b ∷ isBlank b ∷ isEol b ∷ isDigit b ∷ isUpper b ∷ isLetter b ∷ isWord b ∷ []
+byByte b = isTrimmed b ∷ isSpace b ∷ isBlank b ∷ isEol b ∷ isDigit b ∷ isWord b ∷ []
 
 evaluated : values (λ b. byClass (classOf b)) 0 256 ≡ values byByte 0 256
 unfolding classOf

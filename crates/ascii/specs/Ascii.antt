@@ -36,7 +36,7 @@ isLetter b = isUpper b || within 97 122 b
 abbrev pub isWord : ℕ → Bool
 isWord b = isDigit b || isLetter b || eqb b 95
 
--- the lower-case letter of an upper-case one, every other byte kept: what "ignoring case" compares
+-- what "ignoring case" compares, the lower-case letter of an upper-case one; document 02, P3: "65 to 90 gain 32, every other is kept"
 abbrev pub fold : ℕ → ℕ
 fold b = cond (isUpper b) (b + 32) b
 

@@ -1,6 +1,6 @@
 // The classes of the 256 bytes, and the questions that steps ask of a byte, each by its class.
 ghost use mathlib.Core.Path.{_≡_};
-ghost use Rattle.ascii.specs.Ascii.{classOf, isTrimmed, isSpace, isBlank, isEol, isDigit, isUpper, isLetter, isWord, fold as folded};
+ghost use Rattle.ascii.specs.Ascii.{classOf, isTrimmed, isSpace, isBlank, isEol, isDigit, isLetter, isWord, fold as folded};
 
 // 1 blank and tab, 2 LF and CR, 3 FF, 4 VT, 5 digits, 6 upper-case letters, 7 lower-case letters, 8 underscore, 0 any other byte.
 const CLASSES: [u8; 256] = [
@@ -327,33 +327,19 @@ pub fn is_digit(b: u8) -> bool
     class_of(b) == 5
 }
 
-pub fn is_upper(b: u8) -> bool
-    ensures { λ r. ⌜ r ≡ isUpper b ⌝ }
-{
-    let other = (b < 65) | (90 < b);
-    if other {
-        return false;
-    }
-    class_of(b) == 6
-}
-
+// A letter of either case.
 pub fn is_letter(b: u8) -> bool
     ensures { λ r. ⌜ r ≡ isLetter b ⌝ }
 {
-    let lower = (97 <= b) & (b <= 122);
-    if lower {
-        return true;
-    }
-    let k = class_of(b);
-    (6 <= k) & (k <= 7)
+    let lower = fold(b);
+    (97 <= lower) & (lower <= 122)
 }
 
 // A byte of a word: a letter, a digit or `_`.
 pub fn is_word(b: u8) -> bool
     ensures { λ r. ⌜ r ≡ isWord b ⌝ }
 {
-    let lower = (97 <= b) & (b <= 122);
-    if lower {
+    if is_letter(b) {
         return true;
     }
     // what mostly ends a word: blanks, parentheses, the comma
@@ -366,9 +352,13 @@ pub fn is_word(b: u8) -> bool
     5 <= class_of(b)
 }
 
-// The lower-case letter of an upper-case one; every other byte is kept.
+// The lower-case letter of an upper-case one; every other byte is kept. Worked out by arithmetic, so that no caller has a branch for it.
 pub fn fold(b: u8) -> u8
     ensures { λ r. ⌜ r ≡ folded b ⌝ }
 {
-    if is_upper(b) { b + 32 } else { b }
+    let x = b as u16;
+    // 1 from `A` on, and 1 past `Z`
+    let from_a = (x + 191) / 256;
+    let past_z = (x + 165) / 256;
+    (x + (from_a - past_z) * 32) as u8
 }

@@ -5,6 +5,7 @@ ghost use mathlib.Core.Path.{_≡_};
 ghost use mathlib.Core.List.{reverse, _++_};
 ghost use Prim.Native.Nat.{_+_, _-_, _≤_};
 ghost use lib.ListN.{length, take, drop, getD};
+ghost use lib.Dec.{eqb};
 ghost use Rattle.ascii.specs.Ascii.{isTrimmed};
 ghost use Rattle.ascii.specs.Text.{leading, trimmed, LentPart, trimCall, begins, sameBy, firstHigh, foundAt, comparing, holds};
 
@@ -115,11 +116,17 @@ pub fn trim_between(text: &[u8], start: usize, end: usize) -> Range
     }
 }
 
-// A byte as it is compared: folded where case is ignored.
-fn compared(b: u8, ignore_case: bool) -> u8
-    ensures { λ r. ⌜ r ≡ comparing «ignore_case» b ⌝ }
+// Whether two bytes are the same, with case ignored or not. Bytes that are equal need no fold.
+pub fn same_byte(a: u8, b: u8, ignore_case: bool) -> bool
+    ensures { λ r. ⌜ r ≡ eqb (comparing «ignore_case» a) (comparing «ignore_case» b) ⌝ }
 {
-    if ignore_case { class::fold(b) } else { b }
+    if a == b {
+        return true;
+    }
+    if !ignore_case {
+        return false;
+    }
+    class::fold(a) == class::fold(b)
 }
 
 // Whether a word stands at a place of a text.
@@ -133,7 +140,7 @@ pub fn begins_at(text: &[u8], at: usize, word: &[u8], ignore_case: bool) -> bool
         if i >= text.len() {
             return false;
         }
-        if compared(word[j], ignore_case) != compared(text[i], ignore_case) {
+        if !same_byte(word[j], text[i], ignore_case) {
             return false;
         }
         i += 1;

@@ -9,7 +9,7 @@ use native.Mathlib.Omega.{arith}
 use lib.ListN.{length, drop, getD}
 use lib.Dec.{eqb, ltb}
 use borrow.Author.Tests.{ltb-true, ltb-false}
-use Rattle.ascii.specs.Ascii.{isWord, isDigit, isUpper, within}
+use Rattle.ascii.specs.Ascii.{isWord, isDigit, isLetter}
 use Rattle.ascii.proofs.Flags.{by-cases, and-left, and-right}
 use Rattle.bookform.specs.declared.Expect.{Expect}
 use Rattle.bookform.specs.declared.Expect.the-variants.{DirectiveLength, DirectiveName, Rule, ClauseLength, ClauseName}
@@ -24,12 +24,11 @@ not-so h = let z : _≡_ {A = ℕ} 0 1 = cc in absurd (omega arith)
 
 -- a common byte is of a word
 common-word : (b : ℕ) → isCommon b ≡ true → isWord b ≡ true
-common-word b h = go (isDigit b) (isUpper b) (within 97 122 b) (eqb b 95) h
+common-word b h = go (isDigit b) (isLetter b) (eqb b 95) h
   where
-    go : (d u l e : Bool) → (l || e) ≡ true → (d || (u || l) || e) ≡ true
-    go true u l e h = refl
-    go false true l e h = refl
-    go false false l e h = h
+    go : (d l e : Bool) → (l || e) ≡ true → (d || l || e) ≡ true
+    go true l e h = refl
+    go false l e h = h
 
 common-stands : (between before b : ℕ) → isCommonBehind between before b ≡ true → stands between before b ≡ true
 common-stands between before b h = go (isCommon b) (isWord b) (eqb b between) (isCommon before) (isWord before) (common-word b) (common-word before) h
@@ -75,7 +74,7 @@ module _ (between : ℕ) (bs : List ℕ) (at : ℕ) where
 
 -- a clause's name is one word: what stands between its parts is of the word
 word-of : (w : Bool) (b : ℕ) → (isWord b || eqb b 95 && w) ≡ true → isWord b ≡ true
-word-of w b h = go (isDigit b || (isUpper b || within 97 122 b)) (eqb b 95) w h
+word-of w b h = go (isDigit b || isLetter b) (eqb b 95) w h
   where
     go : (w e f : Bool) → (w || e || e && f) ≡ true → (w || e) ≡ true
     go true e f h = refl

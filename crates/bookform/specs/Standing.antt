@@ -5,13 +5,13 @@ use mathlib.Core.Path.{_≡_}
 use mathlib.Core.List.{List}
 use lib.ListN.{length, drop, getD}
 use lib.Dec.{eqb}
-use Rattle.ascii.specs.Ascii.{within, isWord}
+use Rattle.ascii.specs.Ascii.{isLetter, isWord}
 use Rattle.bookform.specs.declared.Expect.{Expect}
 use Rattle.bookform.specs.Format.{isLength, clausesLeft, directivesLeft, badFrom}
 
--- a lower-case letter or `_`
+-- a letter or `_`
 abbrev pub isCommon : ℕ → Bool
-isCommon b = within 97 122 b || eqb b 95
+isCommon b = isLetter b || eqb b 95
 
 -- a byte may stand in a name behind another: it is of a word, or it is the one that stands between words, and the other is of a word
 abbrev pub stands : ℕ → ℕ → ℕ → Bool

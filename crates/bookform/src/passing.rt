@@ -8,6 +8,7 @@ use crate::format::is_header;
 use crate::format::is_length;
 use crate::format::is_rule;
 use crate::format::wide;
+use ascii::class::is_letter;
 use ascii::class::is_word;
 ghost use mathlib.Core.Path.{_≡_};
 ghost use mathlib.Core.Bool.{true};
@@ -17,11 +18,11 @@ ghost use Rattle.ascii.specs.Ascii.{isWord};
 ghost use Rattle.bookform.specs.Format.{directivesLeft, badFrom};
 ghost use Rattle.bookform.specs.Standing.{isCommon, isCommonBehind, Standing, IsName, NameEnds, Passed, waits};
 
-// A lower-case letter or `_`: nearly all bytes of names.
+// A letter or `_`: nearly all bytes of names.
 fn is_common(b: u8) -> bool
     ensures { λ r. ⌜ r ≡ isCommon b ⌝ }
 {
-    ((97 <= b) & (b <= 122)) | (b == 95)
+    is_letter(b) | (b == 95)
 }
 
 // Whether a byte is a common one, or stands between words behind a common one: then it may stand there.

@@ -3,9 +3,9 @@ use crate::Comparison;
 use crate::Tally;
 use ascii::ByteSet;
 use ascii::Found;
-use ascii::class::fold;
 use ascii::class::is_space;
 use ascii::run_end;
+use ascii::same_byte;
 use bookform::Entries;
 use rulebook::EntryFound;
 use rulebook::Header;
@@ -15,21 +15,11 @@ ghost use mathlib.Core.Path.{_≡_};
 ghost use mathlib.Core.Bool.{false};
 ghost use Prim.Native.Nat.{_≤_};
 ghost use lib.ListN.{length};
-ghost use lib.Dec.{eqb};
-ghost use Rattle.ascii.specs.Text.{foundAt, comparing};
+ghost use Rattle.ascii.specs.Text.{foundAt};
 ghost use Rattle.rulebook.specs.Book.{entriesIn, LaidIn, headerOf, bookOf};
 ghost use Rattle.rulebook.specs.Index.{Looked};
 ghost use Rattle.directive.specs.Name.{entryOf, mayGrow};
 ghost use Rattle.directive.specs.Steps.{solidFrom, agreesIn, counted as countedWith, tallyFrom, anyFrom};
-
-fn same_byte(a: u8, b: u8, ignore_case: bool) -> bool
-    ensures { λ r. ⌜ r ≡ eqb (comparing «ignore_case» a) (comparing «ignore_case» b) ⌝ }
-{
-    if ignore_case {
-        return fold(a) == fold(b);
-    }
-    a == b
-}
 
 // A place of a text, past the blanks there if they do not count.
 fn solid_from(text: &[u8], at: usize, compact: bool) -> usize

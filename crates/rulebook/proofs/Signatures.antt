@@ -1,7 +1,7 @@
 -- Names that are equal, with case ignored or not, have one signature; and the signature over what is left of a name.
 -- Assumes nothing.
 use mathlib.Core.Path.{_≡_, refl, _∙_, ap}
-use mathlib.Core.Bool.{Bool, true, false, cond, _&&_}
+use mathlib.Core.Bool.{Bool, true, false, _&&_}
 use mathlib.Core.List.{List, [], _∷_}
 use Prim.Native.Nat.{ℕ, _+_, _*_, _%_, _<_, _≤_}
 use native.Mathlib.Numerals.{add-one}
@@ -10,20 +10,14 @@ use lib.ListN.{length, getD, drop, drop-of-length-le}
 use lib.Seq.{drop-cons}
 use lib.Dec.{eqb}
 use borrow.Author.Tests.{eqb-true}
-use Rattle.ascii.specs.Ascii.{isUpper}
+use Rattle.ascii.specs.Ascii.{fold}
 use Rattle.ascii.specs.Text.{sameBy, comparing}
 use Rattle.rulebook.specs.Signature.{signatureFrom}
 
--- the remainder by 32 does not mind the case
-alike : (ic : Bool) (x y : ℕ) → comparing ic x ≡ comparing ic y → x % 32 ≡ y % 32
-alike false x y h = ap (λ (z : ℕ). z % 32) h
-alike true x y h = go (isUpper x) (isUpper y) h
-  where
-    go : (b d : Bool) → cond b (x + 32) x ≡ cond d (y + 32) y → x % 32 ≡ y % 32
-    go true true h = omega arith
-    go true false h = omega arith
-    go false true h = omega arith
-    go false false h = omega arith
+-- bytes that compare equal fold alike
+alike : (ic : Bool) (x y : ℕ) → comparing ic x ≡ comparing ic y → fold x ≡ fold y
+alike false x y h = ap fold h
+alike true x y h = h
 
 pub signed-apart : (ic : Bool) (a b : List ℕ) (sum sums : ℕ) → (signatureFrom sum sums a ≡ signatureFrom sum sums b → ⊥) → sameBy (comparing ic) a b ≡ false
 unfolding sameBy signatureFrom
@@ -32,15 +26,15 @@ signed-apart ic [] (y ∷ ys) sum sums e = refl
 signed-apart ic (x ∷ xs) [] sum sums e = refl
 signed-apart ic (x ∷ xs) (y ∷ ys) sum sums e =
     go (eqb (comparing ic x) (comparing ic y)) refl
-    (λ q. signed-apart ic xs ys ((sum + x % 32) % 4096) ((sums + sum) % 4096) (λ h. e (h ∙ ap (λ (z : ℕ). signatureFrom ((sum + z) % 4096) ((sums + sum) % 4096) ys) q)))
+    (λ q. signed-apart ic xs ys ((sum + fold x) % 4096) ((sums + sum) % 4096) (λ h. e (h ∙ ap (λ (z : ℕ). signatureFrom ((sum + z) % 4096) ((sums + sum) % 4096) ys) q)))
   where
-    go : (t : Bool) → eqb (comparing ic x) (comparing ic y) ≡ t → (x % 32 ≡ y % 32 → sameBy (comparing ic) xs ys ≡ false) → (t && sameBy (comparing ic) xs ys) ≡ false
+    go : (t : Bool) → eqb (comparing ic x) (comparing ic y) ≡ t → (fold x ≡ fold y → sameBy (comparing ic) xs ys ≡ false) → (t && sameBy (comparing ic) xs ys) ≡ false
     go true h ih = ih (alike ic x y (eqb-true (comparing ic x) (comparing ic y) h))
     go false h ih = refl
 
 -- the sums over what is left of a name
 pub signed-next : (name : List ℕ) (sum sums i : ℕ) → i < length name
-    → signatureFrom sum sums (drop i name) ≡ signatureFrom ((sum + getD name i 0 % 32) % 4096) ((sums + sum) % 4096) (drop (i + 1) name)
+    → signatureFrom sum sums (drop i name) ≡ signatureFrom ((sum + fold (getD name i 0)) % 4096) ((sums + sum) % 4096) (drop (i + 1) name)
 unfolding signatureFrom
 signed-next name sum sums i h = rw (add-one, drop-cons name i 0)
 

@@ -2,6 +2,7 @@
 use crate::EntryFound;
 use crate::lookup::name_at;
 use crate::lookup::same;
+use ascii::class::fold;
 use bookform::Entries;
 use bookform::format::wide;
 ghost use mathlib.Core.Path.{_≡_};
@@ -12,7 +13,7 @@ ghost use Rattle.rulebook.specs.Lookup.{findFrom};
 ghost use Rattle.rulebook.specs.Signature.{signature as signatureOf};
 ghost use Rattle.rulebook.specs.Index.{lastNamed, Indexed, Looked};
 
-// A number that names share if they are equal with case ignored: the two cases of a letter differ by 32.
+// A number that names share if they are equal with case ignored: it is made of their bytes folded.
 pub fn signature(name: &[u8]) -> usize
     ensures { λ r. ⌜ r < 256 ⌝ }
     ensures { λ r. ⌜ r ≡ signatureOf (now (name .entry)) ⌝ }
@@ -23,7 +24,7 @@ pub fn signature(name: &[u8]) -> usize
     let mut i = 0;
     while i < count {
         sums = (sums + sum) % 4096;
-        sum = (sum + wide(name[i] % 32)) % 4096;
+        sum = (sum + wide(fold(name[i]))) % 4096;
         i += 1;
     }
     (sum + sums * 37) % 256

@@ -4,7 +4,7 @@ use crate::EntryFound;
 use crate::Header;
 use crate::index::look_up;
 use ascii::Range;
-use ascii::class::fold;
+use ascii::same_byte;
 use bookform::ClauseRule;
 use bookform::Entries;
 use bookform::RuleByte;
@@ -13,30 +13,11 @@ use bookform::format::wide;
 ghost use mathlib.Core.Path.{_≡_};
 ghost use Prim.Native.Nat.{_-_, _≤_};
 ghost use lib.ListN.{length, take, drop};
-ghost use lib.Dec.{eqb};
 ghost use Rattle.ascii.specs.Text.{sameBy, comparing};
 ghost use Rattle.bookform.specs.Format.{ruleFor, HasForm};
 ghost use Rattle.rulebook.specs.Book.{ruleSaid, nameAt, placeAfter, Laid, LaidIn, headerOf, bookOf, noHeader};
 ghost use Rattle.rulebook.specs.Lookup.{clauseEntry};
 ghost use Rattle.rulebook.specs.Index.{Looked};
-
-// Whether two bytes compare equal. Bytes that differ, and not by the 32 between the cases, need no class.
-fn same_byte(a: u8, b: u8, ignore_case: bool) -> bool
-    ensures { λ r. ⌜ r ≡ eqb (comparing «ignore_case» a) (comparing «ignore_case» b) ⌝ }
-{
-    if a == b {
-        return true;
-    }
-    if !ignore_case {
-        return false;
-    }
-    let x = wide(a);
-    let y = wide(b);
-    if (x + 32 != y) & (y + 32 != x) {
-        return false;
-    }
-    fold(a) == fold(b)
-}
 
 // Whether two names are equal, with case ignored or not.
 pub fn same(a: &[u8], b: &[u8], ignore_case: bool) -> bool

@@ -5,7 +5,7 @@ use Prim.Native.Nat.{_-_, _≤_}
 use native.Mathlib.Omega.{arith}
 use lib.ListN.{length, drop}
 use borrow.Author.Needs.{needs}
-use borrow.Author.Tests.{eq-eqb, ne-eqb}
+use borrow.Author.Tests.{not-true, not-false}
 use Rattle.ascii.specs.Text.{begins, comparing}
 use Rattle.ascii.proofs.Texts.{begins-all, begins-short, begins-next}
 use Rattle.ascii.proofs.begins_at.Statement.{statement}
@@ -28,16 +28,15 @@ begins-at-spec =
     (λ c. let l : tie.In-loop Inv-loop μ-loop = c .before in
     rw (begins-short, l .loop-test .taken, c .if1 .taken) at (l .before .loop .inv .1))
     (λ c. omega arith)
-    (λ c κs. search needs)
     (λ c. omega arith)
     (λ c κs. search needs)
-    (λ c. let l : tie.In-loop Inv-loop μ-loop = c .before .before .before .before .before .before in
-    let e = rw (c .before .before .before .compared .ensures, c .before .compared2 .ensures) at (ne-eqb _ _ (c .if2 .taken)) in
-    rw (begins-next, l .loop-test .taken, c .before .before .before .before .before .if1 .left, e) at (l .before .loop .inv .1))
+    (λ c. let l : tie.In-loop Inv-loop μ-loop = c .before .before .before .before .before in
+    let e = sym (c .before .same-byte .ensures) ∙ not-true (c .before .same-byte .result) (c .if2 .taken) in
+    rw (begins-next, l .loop-test .taken, c .before .before .before .before .if1 .left, e) at (l .before .loop .inv .1))
     (λ c. omega arith)
     (λ c. omega arith)
     (λ c. omega arith)
-    (λ c. let l : tie.In-loop Inv-loop μ-loop = c .before .before .before .before .before .before in
-    let e = rw (c .before .before .before .compared .ensures, c .before .compared2 .ensures) at (eq-eqb _ _ (c .if2 .left)) in
-    (omega arith, rw (begins-next, l .loop-test .taken, c .before .before .before .before .before .if1 .left, e) at (l .before .loop .inv .1)))
+    (λ c. let l : tie.In-loop Inv-loop μ-loop = c .before .before .before .before .before in
+    let e = sym (c .before .same-byte .ensures) ∙ not-false (c .before .same-byte .result) (c .if2 .left) in
+    (omega arith, rw (begins-next, l .loop-test .taken, c .before .before .before .before .if1 .left, e) at (l .before .loop .inv .1)))
     (λ c. rw (begins-all, c .loop-test .left) at (c .before .loop .inv .1)))

@@ -1,19 +1,14 @@
--- `ascii::class::is_letter` meets its contract: question 6 of a byte is answered by its class, and that of a common byte without it.
+-- `ascii::class::is_letter` meets its contract: a byte is a letter if its fold is a lower-case one, evaluated over the 256 bytes.
 -- Assumes nothing.
-use mathlib.Core.Path.{refl, sym}
-use mathlib.Core.Bool.{true}
+use mathlib.Core.Path.{refl}
 use borrow.Author.Needs.{needs}
-use Rattle.ascii.specs.Ascii.{isLetter, within}
-use Rattle.ascii.proofs.Table.{agree-where}
-use Rattle.ascii.proofs.Classes.{told}
+use Rattle.ascii.specs.Ascii.{within, isLetter, fold}
+use Rattle.ascii.proofs.Table.{agree}
 use Rattle.ascii.proofs.class.is_letter.Statement.{statement}
 use Rattle.ascii.proofs.class.is_letter.Tie as tie
 
-small : tie.Need-returns
-small c = sym (agree-where (within 97 122) isLetter (λ _. true) 256 refl (c .before .args .b) (search needs) (c .if1 .taken))
-
-other : tie.Need-returns-2
-other c = rw (c .class-of .ensures) (told 6 (c .before .before .args .b) (search needs))
+returns : tie.Need-returns
+returns c = rw (c .fold .ensures) (agree (λ b. within 97 122 (fold b)) isLetter 256 refl (c .before .args .b) (search needs))
 
 pub is-letter-spec : {M : Type 1} → statement M
-is-letter-spec = tie.close (tie.spec small (λ c κs. search needs) other)
+is-letter-spec = tie.close (tie.spec (λ c κs. search needs) returns)

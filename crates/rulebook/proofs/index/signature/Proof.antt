@@ -26,11 +26,12 @@ signature-spec =
     (λ c. omega arith)
     (λ c. omega arith)
     (λ c κs. search needs)
+    (λ c κs. search needs)
     (λ c. omega arith)
     (λ c. omega arith)
     (λ c. omega arith)
-    (λ c. let l : tie.In-loop Inv-loop μ-loop = c .before .before in
-    (omega arith, omega arith, omega arith, rw (c .wide .ensures) (rw (signed-next, l .loop-test .taken) at (l .before .loop .inv .3))))
+    (λ c. let l : tie.In-loop Inv-loop μ-loop = c .before .before .before in
+    (omega arith, omega arith, omega arith, rw (c .wide .ensures, c .before .fold .ensures) (rw (signed-next, l .loop-test .taken) at (l .before .loop .inv .3))))
     (λ c. omega arith)
     (λ c. omega arith)
     (λ c. let l = c .before .loop in (omega arith, rw (signed-end, c .loop-test .left) at (l .inv .3))))
