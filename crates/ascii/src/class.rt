@@ -331,8 +331,7 @@ pub fn is_digit(b: u8) -> bool
 pub fn is_letter(b: u8) -> bool
     ensures { λ r. ⌜ r ≡ isLetter b ⌝ }
 {
-    let lower = fold(b);
-    (97 <= lower) & (lower <= 122)
+    ((65 <= b) & (b <= 90)) | ((97 <= b) & (b <= 122))
 }
 
 // A byte of a word: a letter, a digit or `_`.
@@ -357,8 +356,7 @@ pub fn fold(b: u8) -> u8
     ensures { λ r. ⌜ r ≡ folded b ⌝ }
 {
     let x = b as u16;
-    // 1 from `A` on, and 1 past `Z`
-    let from_a = (x + 191) / 256;
-    let past_z = (x + 165) / 256;
-    (x + (from_a - past_z) * 32) as u8
+    // the bytes turned so that `A` to `Z` are the last, 230 to 255: divided by 230 these give 1, all others 0
+    let upper = (x + 165) % 256 / 230;
+    (x + upper * 32) as u8
 }

@@ -26,7 +26,7 @@ signed-apart ic [] (y ∷ ys) sum sums e = refl
 signed-apart ic (x ∷ xs) [] sum sums e = refl
 signed-apart ic (x ∷ xs) (y ∷ ys) sum sums e =
     go (eqb (comparing ic x) (comparing ic y)) refl
-    (λ q. signed-apart ic xs ys ((sum + fold x) % 4096) ((sums + sum) % 4096) (λ h. e (h ∙ ap (λ (z : ℕ). signatureFrom ((sum + z) % 4096) ((sums + sum) % 4096) ys) q)))
+    (λ q. signed-apart ic xs ys ((sum + fold x % 32) % 4096) ((sums + sum) % 4096) (λ h. e (h ∙ ap (λ (z : ℕ). signatureFrom ((sum + z % 32) % 4096) ((sums + sum) % 4096) ys) q)))
   where
     go : (t : Bool) → eqb (comparing ic x) (comparing ic y) ≡ t → (fold x ≡ fold y → sameBy (comparing ic) xs ys ≡ false) → (t && sameBy (comparing ic) xs ys) ≡ false
     go true h ih = ih (alike ic x y (eqb-true (comparing ic x) (comparing ic y) h))
@@ -34,7 +34,7 @@ signed-apart ic (x ∷ xs) (y ∷ ys) sum sums e =
 
 -- the sums over what is left of a name
 pub signed-next : (name : List ℕ) (sum sums i : ℕ) → i < length name
-    → signatureFrom sum sums (drop i name) ≡ signatureFrom ((sum + fold (getD name i 0)) % 4096) ((sums + sum) % 4096) (drop (i + 1) name)
+    → signatureFrom sum sums (drop i name) ≡ signatureFrom ((sum + fold (getD name i 0) % 32) % 4096) ((sums + sum) % 4096) (drop (i + 1) name)
 unfolding signatureFrom
 signed-next name sum sums i h = rw (add-one, drop-cons name i 0)
 

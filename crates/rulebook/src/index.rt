@@ -13,7 +13,8 @@ ghost use Rattle.rulebook.specs.Lookup.{findFrom};
 ghost use Rattle.rulebook.specs.Signature.{signature as signatureOf};
 ghost use Rattle.rulebook.specs.Index.{lastNamed, Indexed, Looked};
 
-// A number that names share if they are equal with case ignored: it is made of their bytes folded.
+// A number that names share if they are equal with case ignored: it is made of their bytes folded. Five bits of each tell letters apart, and of these
+// the compiler knows without a sum that folding leaves them.
 pub fn signature(name: &[u8]) -> usize
     ensures { λ r. ⌜ r < 256 ⌝ }
     ensures { λ r. ⌜ r ≡ signatureOf (now (name .entry)) ⌝ }
@@ -24,7 +25,7 @@ pub fn signature(name: &[u8]) -> usize
     let mut i = 0;
     while i < count {
         sums = (sums + sum) % 4096;
-        sum = (sum + wide(fold(name[i]))) % 4096;
+        sum = (sum + wide(fold(name[i]) % 32)) % 4096;
         i += 1;
     }
     (sum + sums * 37) % 256
