@@ -1,7 +1,7 @@
 -- Laws of entries whose form is right: bytes that may stand in a name one behind the other, a name's bytes followed by the states of Format,
 -- and so an entry passed. Assumes nothing.
 use mathlib.Core.Path.{_≡_, refl, _∙_}
-use mathlib.Core.Bool.{Bool, true, false, _&&_, _||_}
+use mathlib.Core.Bool.{Bool, true, false, not, _&&_, _||_}
 use mathlib.Core.List.{List}
 use Prim.Native.Nat.{ℕ, zero, suc, _+_, _-_, _≤_}
 use native.Mathlib.Nat.{add-zero}
@@ -15,29 +15,31 @@ use Rattle.bookform.specs.declared.Expect.{Expect}
 use Rattle.bookform.specs.declared.Expect.the-variants.{DirectiveLength, DirectiveName, Rule, ClauseLength, ClauseName}
 use Rattle.bookform.specs.declared.Step.the-variants.{Next}
 use Rattle.bookform.specs.Format.{stepped, ruleFor, isKnown, clausesLeft, directivesLeft, badFrom}
-use Rattle.bookform.specs.Standing.{isCommon, isCommonBehind, stands, Standing, IsName, NameEnds, Passed}
+use Rattle.bookform.specs.Standing.{stands, isOfName, standsBehind, Standing, IsName, NameEnds, Passed}
 use Rattle.bookform.proofs.Steps.{at-least, bad-later}
 
 -- what follows from a test that fails
 pub not-so : {X : Type 0} → false ≡ true → X
 not-so h = let z : _≡_ {A = ℕ} 0 1 = cc in absurd (omega arith)
 
--- a common byte is of a word
-common-word : (b : ℕ) → isCommon b ≡ true → isWord b ≡ true
-common-word b h = go (isDigit b) (isLetter b) (eqb b 95) h
+-- a byte behind one of a name may stand there, and is of the name then
+behind-stands : (between before b : ℕ) → isOfName between before ≡ true → standsBehind between before b ≡ true → stands between before b ≡ true
+behind-stands between before b f h = go (isWord b) (eqb b between) (isWord before) (eqb before between) f h
   where
-    go : (d l e : Bool) → (l || e) ≡ true → (d || l || e) ≡ true
-    go true l e h = refl
-    go false l e h = h
+    go : (w e v q : Bool) → (v || q) ≡ true → (w || e && not q) ≡ true → (w || e && v) ≡ true
+    go true e v q f h = refl
+    go false true true q f h = refl
+    go false true false true f h = h
+    go false true false false f h = f
+    go false false v q f h = h
 
-common-stands : (between before b : ℕ) → isCommonBehind between before b ≡ true → stands between before b ≡ true
-common-stands between before b h = go (isCommon b) (isWord b) (eqb b between) (isCommon before) (isWord before) (common-word b) (common-word before) h
+stands-of : (between before b : ℕ) → stands between before b ≡ true → isOfName between b ≡ true
+stands-of between before b h = go (isWord b) (eqb b between) (isWord before) h
   where
-    go : (c w e c′ w′ : Bool) → (c ≡ true → w ≡ true) → (c′ ≡ true → w′ ≡ true) → (c || e && c′) ≡ true → (w || e && w′) ≡ true
-    go true w e c′ w′ f g h = rw (f refl) refl
-    go false true e c′ w′ f g h = refl
-    go false false true c′ w′ f g h = g h
-    go false false false c′ w′ f g h = h
+    go : (w e v : Bool) → (w || e && v) ≡ true → (w || e) ≡ true
+    go true e v h = refl
+    go false true v h = refl
+    go false false v h = h
 
 module _ (between : ℕ) (bs : List ℕ) (from : ℕ) where
   -- none, and one byte more
@@ -51,26 +53,40 @@ module _ (between : ℕ) (bs : List ℕ) (from : ℕ) where
 pub standing-both : (between : ℕ) (bs : List ℕ) (from a b to : ℕ) → a ≤ b → Standing between bs from b → Standing between bs a to → Standing between bs from to
 standing-both between bs from a b to h s t i f g = by-cases (ltb i b) (λ l. s i f (ltb-true i b l)) (λ l. t i (omega (arith, ltb-false i b l)) g)
 
--- the byte at a place and k behind it are common ones behind the one before
-module _ (between : ℕ) (bs : List ℕ) (at : ℕ) where
+-- the byte before a place of a run that begins behind a byte of a word
+pub of-before : (between : ℕ) (bs : List ℕ) (from i at : ℕ) → from ≤ at → at ≤ i → isWord (getD bs (from - 1) 0) ≡ true → Standing between bs from i
+    → isOfName between (getD bs (at - 1) 0) ≡ true
+of-before between bs from i at h g w s =
+    by-cases (ltb from at)
+    (λ l. let k = ltb-true from at l in stands-of between (getD bs (at - 1 - 1) 0) (getD bs (at - 1) 0) (s (at - 1) (omega arith) (omega arith)))
+    (λ l. let e : at ≡ from = omega (arith, ltb-false from at l) in rw (e, w) refl)
+
+-- the byte at a place and k behind it may each stand behind the one before
+module _ (between : ℕ) (bs : List ℕ) (at : ℕ) (first : isOfName between (getD bs (at - 1) 0) ≡ true) where
   abbrev behind : ℕ → ℕ → Bool
-  behind i j = isCommonBehind between (getD bs i 0) (getD bs j 0)
+  behind i j = standsBehind between (getD bs i 0) (getD bs j 0)
 
-  abbrev pub commons : ℕ → Bool
-  commons zero = behind (at - 1) at
-  commons (suc zero) = commons zero && behind at (at + 1)
-  commons (suc (suc k)) = commons (suc k) && behind (at + suc k) (at + suc (suc k))
+  abbrev pub all-behind : ℕ → Bool
+  all-behind zero = behind (at - 1) at
+  all-behind (suc zero) = all-behind zero && behind at (at + 1)
+  all-behind (suc (suc k)) = all-behind (suc k) && behind (at + suc k) (at + suc (suc k))
 
-  pub commons-stand : (k : ℕ) → commons k ≡ true → Standing between bs at (at + suc k)
-  commons-stand zero h = standing-more between bs at at (common-stands between (getD bs (at - 1) 0) (getD bs at 0) h) (standing-none between bs at at (omega arith))
-  commons-stand (suc zero) h =
-      let e : at + 1 - 1 ≡ at = omega arith in
+  -- one more byte behind the last of a run
+  one-more : (i j : ℕ) → j - 1 ≡ i → isOfName between (getD bs i 0) ≡ true → behind i j ≡ true → Standing between bs at j → Standing between bs at (j + 1)
+  one-more i j e f h s = standing-more between bs at j (rw e (behind-stands between (getD bs i 0) (getD bs j 0) f h)) s
+
+  pub all-stand : (k : ℕ) → all-behind k ≡ true → Standing between bs at (at + suc k)
+  all-stand zero h = one-more (at - 1) at refl first h (standing-none between bs at at (omega arith))
+  all-stand (suc zero) h =
       let n : at + 1 + 1 ≡ at + suc (suc zero) = omega arith in
-      rw n at (standing-more between bs at (at + 1) (rw e (common-stands between (getD bs at 0) (getD bs (at + 1) 0) (and-right (commons zero) (behind at (at + 1)) h))) (commons-stand zero (and-left (commons zero) (behind at (at + 1)) h)))
-  commons-stand (suc (suc k)) h =
-      let e : at + suc (suc k) - 1 ≡ at + suc k = omega arith in
+      let s = all-stand zero (and-left (all-behind zero) (behind at (at + 1)) h) in
+      let f = stands-of between (getD bs (at - 1) 0) (getD bs at 0) (s at (omega arith) (omega arith)) in
+      rw n at (one-more at (at + 1) (omega arith) f (and-right (all-behind zero) (behind at (at + 1)) h) s)
+  all-stand (suc (suc k)) h =
       let n : at + suc (suc k) + 1 ≡ at + suc (suc (suc k)) = omega arith in
-      rw n at (standing-more between bs at (at + suc (suc k)) (rw e (common-stands between (getD bs (at + suc k) 0) (getD bs (at + suc (suc k)) 0) (and-right (commons (suc k)) (behind (at + suc k) (at + suc (suc k))) h))) (commons-stand (suc k) (and-left (commons (suc k)) (behind (at + suc k) (at + suc (suc k))) h)))
+      let s = all-stand (suc k) (and-left (all-behind (suc k)) (behind (at + suc k) (at + suc (suc k))) h) in
+      let f = stands-of between (getD bs (at + suc k - 1) 0) (getD bs (at + suc k) 0) (s (at + suc k) (omega arith) (omega arith)) in
+      rw n at (one-more (at + suc k) (at + suc (suc k)) (omega arith) f (and-right (all-behind (suc k)) (behind (at + suc k) (at + suc (suc k))) h) s)
 
 -- a clause's name is one word: what stands between its parts is of the word
 word-of : (w : Bool) (b : ℕ) → (isWord b || eqb b 95 && w) ≡ true → isWord b ≡ true

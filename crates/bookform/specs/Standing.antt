@@ -1,25 +1,25 @@
 -- Entries whose form is right, as they are passed at once: what the quick steps of the check tell. What the form is, Format says.
 use Prim.Native.Nat.{ℕ, zero, suc, _+_, _-_, _<_, _≤_}
-use mathlib.Core.Bool.{Bool, true, _&&_, _||_}
+use mathlib.Core.Bool.{Bool, true, not, _&&_, _||_}
 use mathlib.Core.Path.{_≡_}
 use mathlib.Core.List.{List}
 use lib.ListN.{length, drop, getD}
 use lib.Dec.{eqb}
-use Rattle.ascii.specs.Ascii.{isLetter, isWord}
+use Rattle.ascii.specs.Ascii.{isWord}
 use Rattle.bookform.specs.declared.Expect.{Expect}
 use Rattle.bookform.specs.Format.{isLength, clausesLeft, directivesLeft, badFrom}
-
--- a letter or `_`
-abbrev pub isCommon : ℕ → Bool
-isCommon b = isLetter b || eqb b 95
 
 -- a byte may stand in a name behind another: it is of a word, or it is the one that stands between words, and the other is of a word
 abbrev pub stands : ℕ → ℕ → ℕ → Bool
 stands between before b = isWord b || eqb b between && isWord before
 
--- the same of common bytes alone
-abbrev pub isCommonBehind : ℕ → ℕ → ℕ → Bool
-isCommonBehind between before b = isCommon b || eqb b between && isCommon before
+-- a byte of a name: of a word, or the one that stands between words
+abbrev pub isOfName : ℕ → ℕ → Bool
+isOfName between b = isWord b || eqb b between
+
+-- a byte may stand behind one of a name: it is of a word, or it is the one between words and the other is not
+abbrev pub standsBehind : ℕ → ℕ → ℕ → Bool
+standsBehind between before b = isWord b || eqb b between && not (eqb before between)
 
 -- each byte from a place up to another may stand behind the one before it
 abbrev pub Standing : ℕ → List ℕ → ℕ → ℕ → Type 0

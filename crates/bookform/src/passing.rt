@@ -16,25 +16,25 @@ ghost use Prim.Native.Nat.{_+_, _-_, _<_, _≤_};
 ghost use lib.ListN.{length, drop, getD};
 ghost use Rattle.ascii.specs.Ascii.{isWord};
 ghost use Rattle.bookform.specs.Format.{directivesLeft, badFrom};
-ghost use Rattle.bookform.specs.Standing.{isCommon, isCommonBehind, Standing, IsName, NameEnds, Passed, waits};
+ghost use Rattle.bookform.specs.Standing.{isOfName, standsBehind, Standing, IsName, NameEnds, Passed, waits};
 
-// A letter or `_`: nearly all bytes of names.
-fn is_common(b: u8) -> bool
-    ensures { λ r. ⌜ r ≡ isCommon b ⌝ }
+// A byte of a word, asked without a branch: so the compiler asks it of eight at once.
+fn is_of_word(b: u8) -> bool
+    ensures { λ r. ⌜ r ≡ isWord b ⌝ }
 {
-    is_letter(b) | (b == 95)
+    ((48 <= b) & (b <= 57)) | is_letter(b) | (b == 95)
 }
 
-// Whether a byte is a common one, or stands between words behind a common one: then it may stand there.
-fn is_common_behind(before: u8, b: u8, between: u8) -> bool
-    ensures { λ r. ⌜ r ≡ isCommonBehind between before b ⌝ }
+// Whether a byte may stand behind another that stands in a name: it is of a word, or it is the one between words and the other is not.
+fn stands_behind(before: u8, b: u8, between: u8) -> bool
+    ensures { λ r. ⌜ r ≡ standsBehind between before b ⌝ }
 {
-    is_common(b) | ((b == between) & is_common(before))
+    is_of_word(b) | ((b == between) & (before != between))
 }
 
 // Whether each of the eight bytes from a place on may stand behind the one before it.
 fn eight_stand(book: &[u8], at: usize, between: u8) -> bool
-    requires { ⌜ (1 ≤ at) × (at + 8 ≤ length (now book)) ⌝ }
+    requires { ⌜ (1 ≤ at) × (at + 8 ≤ length (now book)) × (isOfName between (getD (now book) (at - 1) 0) ≡ true) ⌝ }
     ensures { λ r. ⌜ (r ≡ true → Standing between (now (book .entry)) at (at + 8)) ⌝ }
 {
     let a = book[at];
@@ -44,29 +44,39 @@ fn eight_stand(book: &[u8], at: usize, between: u8) -> bool
     let e = book[at + 4];
     let f = book[at + 5];
     let g = book[at + 6];
-    is_common_behind(book[at - 1], a, between)
-        & is_common_behind(a, b, between)
-        & is_common_behind(b, c, between)
-        & is_common_behind(c, d, between)
-        & is_common_behind(d, e, between)
-        & is_common_behind(e, f, between)
-        & is_common_behind(f, g, between)
-        & is_common_behind(g, book[at + 7], between)
+    stands_behind(book[at - 1], a, between)
+        & stands_behind(a, b, between)
+        & stands_behind(b, c, between)
+        & stands_behind(c, d, between)
+        & stands_behind(d, e, between)
+        & stands_behind(e, f, between)
+        & stands_behind(f, g, between)
+        & stands_behind(g, book[at + 7], between)
 }
 
-// The same up to a place, by eights; the last eight may overlap those before.
+// The lesser of two numbers.
+fn lesser(a: usize, b: usize) -> usize
+    ensures { λ r. ⌜ r ≡ a - (a - b) ⌝ }
+{
+    if a < b { a } else { b }
+}
+
+// The same up to a place, behind a byte of a word, by eights; the last eight may overlap those before. They are asked in one place, so that the
+// compiler draws the question in.
 fn eights_stand(book: &[u8], from: usize, to: usize, between: u8) -> bool
-    requires { ⌜ (1 ≤ from) × (from + 8 ≤ to) × (to ≤ length (now book)) ⌝ }
+    requires { ⌜ (1 ≤ from) × (from + 8 ≤ to) × (to ≤ length (now book)) × (isWord (getD (now book) (from - 1) 0) ≡ true) ⌝ }
     ensures { λ r. ⌜ (r ≡ true → Standing between (now (book .entry)) from to) ⌝ }
 {
+    let last = to - 8;
     let mut i = from;
-    while i + 8 < to {
-        if !eight_stand(book, i, between) {
+    while i < to {
+        let at = lesser(i, last);
+        if !eight_stand(book, at, between) {
             return false;
         }
-        i += 8;
+        i = at + 8;
     }
-    eight_stand(book, to - 8, between)
+    true
 }
 
 // The same byte by byte, behind a byte of a word.
@@ -102,9 +112,7 @@ fn is_name(book: &[u8], start: usize, end: usize, between: u8) -> bool
         return false;
     }
     if from + 8 <= to {
-        if eights_stand(book, from, to, between) {
-            return true;
-        }
+        return eights_stand(book, from, to, between);
     }
     each_stands(book, from, to, between)
 }

@@ -9,13 +9,20 @@ use Rattle.bookform.proofs.Standings.{not-so}
 use Rattle.bookform.proofs.passing.is_name.Statement.{statement}
 use Rattle.bookform.proofs.passing.is_name.Tie as tie
 
+eights-stand-requires : tie.Need-eights-stand-requires
+eights-stand-requires c κs =
+    let f = c .before .before .before .before in
+    let a = c .before .before .before .before .before .before .before .before .args in
+    let e : a .start + 1 - 1 ≡ a .start = omega arith in
+    (omega arith, omega arith, omega arith, rw e (sym (f .before .is-word .ensures) ∙ not-false (f .before .is-word .result) (f .if1 .left)))
+
 returns-3 : tie.Need-returns-3
 returns-3 c h =
-    let f = c .before .before .before .before .before .before in
-    let l = c .before .before .before in
+    let f = c .before .before .before .before .before in
+    let l = c .before .before in
     record {
       first = sym (f .before .is-word .ensures) ∙ not-false (f .before .is-word .result) (f .if1 .left);
-      inner = c .before .eights-stand .ensures (c .if4 .taken);
+      inner = c .eights-stand .ensures h;
       last = sym (l .before .is-word2 .ensures) ∙ not-false (l .before .is-word2 .result) (l .if2 .left);
     }
 
@@ -49,7 +56,7 @@ is-name-spec =
     (λ c κs. search needs)
     (λ c. not-so)
     (λ c. omega arith)
-    (λ c κs. (omega arith, omega arith, omega arith))
+    eights-stand-requires
     returns-3
     each-stands-requires
     returns-4)
