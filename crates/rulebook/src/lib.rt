@@ -68,15 +68,17 @@ pub fn checked(book: &[u8], index: &mut [u32]) -> CheckedBook
             header: lookup::no_header(),
         },
         Found::Nothing => {
-            let header = lookup::read_header(book);
-            match repeats::first_repeat(book, header, index) {
+            let repeats = repeats::first_repeat(book, index);
+            let found = repeats.found;
+            let end = repeats.end;
+            match found {
                 Found::At(place) => CheckedBook {
                     verdict: refused(place),
-                    header,
+                    header: lookup::no_header(),
                 },
                 Found::Nothing => CheckedBook {
                     verdict: BookAnswer::Valid,
-                    header,
+                    header: lookup::read_header(book, end),
                 },
             }
         }

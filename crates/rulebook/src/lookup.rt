@@ -15,7 +15,7 @@ ghost use Prim.Native.Nat.{_-_, _≤_};
 ghost use lib.ListN.{length, take, drop};
 ghost use Rattle.ascii.specs.Text.{sameBy, comparing};
 ghost use Rattle.bookform.specs.Format.{ruleFor, HasForm};
-ghost use Rattle.rulebook.specs.Book.{ruleSaid, nameAt, placeAfter, Laid, LaidIn, headerOf, bookOf, noHeader};
+ghost use Rattle.rulebook.specs.Book.{ruleSaid, nameAt, headerOf, bookOf, noHeader};
 ghost use Rattle.rulebook.specs.Lookup.{clauseEntry};
 ghost use Rattle.rulebook.specs.Index.{Looked};
 
@@ -63,39 +63,41 @@ pub fn name_at(book: &[u8], lead: usize, at: usize) -> Range
     }
 }
 
-// The place after the entries.
-fn entries_end(book: &[u8], entries: Entries) -> usize
-    requires { ⌜ LaidIn entries (now book) ⌝ }
-    ensures { λ r. ⌜ r ≡ placeAfter (entries .lead) (entries .count) (entries .first) (now (book .entry)) ⌝ }
+// The directive entries of a book whose form is right.
+pub fn directives_of(book: &[u8]) -> Entries
+    requires { ⌜ HasForm (now book) ⌝ }
+    ensures { λ r. ⌜ r ≡ headerOf (now (book .entry)) .directives ⌝ }
 {
-    let lead = entries.lead;
-    let mut at = entries.first;
-    let mut left = entries.count;
-    while 0 < left {
-        let name = name_at(book, lead, at);
-        at = name.end;
-        left -= 1;
+    Entries {
+        lead: 0,
+        first: 9,
+        count: wide(book[7]),
     }
-    at
 }
 
-// The header, once the book's form is right.
-pub fn read_header(book: &[u8]) -> Header
+// Its clause entries, which begin where the directives end.
+pub fn clauses_of(book: &[u8], first: usize) -> Entries
     requires { ⌜ HasForm (now book) ⌝ }
+    requires { ⌜ first ≡ headerOf (now book) .clauses .first ⌝ }
+    ensures { λ r. ⌜ r ≡ headerOf (now (book .entry)) .clauses ⌝ }
+{
+    Entries {
+        lead: 1,
+        first,
+        count: wide(book[8]),
+    }
+}
+
+// The header, once the book's form is right and the place is known where its directives end.
+pub fn read_header(book: &[u8], end: usize) -> Header
+    requires { ⌜ HasForm (now book) ⌝ }
+    requires { ⌜ end ≡ headerOf (now book) .clauses .first ⌝ }
     ensures { λ r. ⌜ r ≡ headerOf (now (book .entry)) ⌝ }
 {
     let flags = book[5];
     let rule = rule_said(book[6]);
-    let directives = Entries {
-        lead: 0,
-        first: 9,
-        count: wide(book[7]),
-    };
-    let clauses = Entries {
-        lead: 1,
-        first: entries_end(book, directives),
-        count: wide(book[8]),
-    };
+    let directives = directives_of(book);
+    let clauses = clauses_of(book, end);
     Header {
         ignores_case: flags % 2 == 1,
         optional_blanks: flags / 2 % 2 == 1,

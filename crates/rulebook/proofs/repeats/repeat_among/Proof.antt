@@ -84,7 +84,7 @@ returns c =
     let l = m .before .before .loop in
     let n = m .before .before .before .before .before .args .entries .count in
     let h = sym (c .before .is-repeat .ensures) ∙ c .if1 .taken in
-    (sym (repeat-here _ _ (n - l .done) (n - (l .done + 1)) (l .at) _ (omega arith) (m .name-at .ensures) _ h) ∙ l .inv .4, (l .inv .9, λ z. absurd (some-none z)))
+    (sym (repeat-here _ _ (n - l .done) (n - (l .done + 1)) (l .at) _ (omega arith) (m .name-at .ensures) _ h) ∙ l .inv .4, (l .inv .9, (λ z. absurd (some-none z), λ z. absurd (some-none z))))
 
 loop-again : tie.Need-loop-again Inv-loop μ-loop
 loop-again c =
@@ -151,4 +151,4 @@ repeat-among-spec =
     let n = c .before .before .before .before .args .entries .count in
     let e : n - l .done ≡ 0 = omega arith in
     let d : l .done ≡ n = omega arith in
-    (rw (repeat-none, e) at (l .inv .4), (l .inv .9, λ _. rw d at (told (c .before))))))
+    (rw (repeat-none, e) at (l .inv .4), (l .inv .9, (λ _. rw d at (told (c .before)), λ _. rw d at (l .inv .3))))))
