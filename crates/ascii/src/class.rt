@@ -327,7 +327,7 @@ pub fn is_digit(b: u8) -> bool
     class_of(b) == 5
 }
 
-// A letter of either case.
+// A letter of either case, asked before the class of a byte.
 pub fn is_letter(b: u8) -> bool
     ensures { λ r. ⌜ r ≡ isLetter b ⌝ }
 {

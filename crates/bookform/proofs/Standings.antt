@@ -66,27 +66,27 @@ module _ (between : ℕ) (bs : List ℕ) (at : ℕ) (first : isOfName between (g
   abbrev behind : ℕ → ℕ → Bool
   behind i j = standsBehind between (getD bs i 0) (getD bs j 0)
 
-  abbrev pub all-behind : ℕ → Bool
-  all-behind zero = behind (at - 1) at
-  all-behind (suc zero) = all-behind zero && behind at (at + 1)
-  all-behind (suc (suc k)) = all-behind (suc k) && behind (at + suc k) (at + suc (suc k))
+  abbrev pub run-behind : ℕ → Bool
+  run-behind zero = behind (at - 1) at
+  run-behind (suc zero) = run-behind zero && behind at (at + 1)
+  run-behind (suc (suc k)) = run-behind (suc k) && behind (at + suc k) (at + suc (suc k))
 
   -- one more byte behind the last of a run
   one-more : (i j : ℕ) → j - 1 ≡ i → isOfName between (getD bs i 0) ≡ true → behind i j ≡ true → Standing between bs at j → Standing between bs at (j + 1)
   one-more i j e f h s = standing-more between bs at j (rw e (behind-stands between (getD bs i 0) (getD bs j 0) f h)) s
 
-  pub all-stand : (k : ℕ) → all-behind k ≡ true → Standing between bs at (at + suc k)
-  all-stand zero h = one-more (at - 1) at refl first h (standing-none between bs at at (omega arith))
-  all-stand (suc zero) h =
+  pub run-stands : (k : ℕ) → run-behind k ≡ true → Standing between bs at (at + suc k)
+  run-stands zero h = one-more (at - 1) at refl first h (standing-none between bs at at (omega arith))
+  run-stands (suc zero) h =
       let n : at + 1 + 1 ≡ at + suc (suc zero) = omega arith in
-      let s = all-stand zero (and-left (all-behind zero) (behind at (at + 1)) h) in
+      let s = run-stands zero (and-left (run-behind zero) (behind at (at + 1)) h) in
       let f = stands-of between (getD bs (at - 1) 0) (getD bs at 0) (s at (omega arith) (omega arith)) in
-      rw n at (one-more at (at + 1) (omega arith) f (and-right (all-behind zero) (behind at (at + 1)) h) s)
-  all-stand (suc (suc k)) h =
+      rw n at (one-more at (at + 1) (omega arith) f (and-right (run-behind zero) (behind at (at + 1)) h) s)
+  run-stands (suc (suc k)) h =
       let n : at + suc (suc k) + 1 ≡ at + suc (suc (suc k)) = omega arith in
-      let s = all-stand (suc k) (and-left (all-behind (suc k)) (behind (at + suc k) (at + suc (suc k))) h) in
+      let s = run-stands (suc k) (and-left (run-behind (suc k)) (behind (at + suc k) (at + suc (suc k))) h) in
       let f = stands-of between (getD bs (at + suc k - 1) 0) (getD bs (at + suc k) 0) (s (at + suc k) (omega arith) (omega arith)) in
-      rw n at (one-more (at + suc k) (at + suc (suc k)) (omega arith) f (and-right (all-behind (suc k)) (behind (at + suc k) (at + suc (suc k))) h) s)
+      rw n at (one-more (at + suc k) (at + suc (suc k)) (omega arith) f (and-right (run-behind (suc k)) (behind (at + suc k) (at + suc (suc k))) h) s)
 
 -- a clause's name is one word: what stands between its parts is of the word
 word-of : (w : Bool) (b : ℕ) → (isWord b || eqb b 95 && w) ≡ true → isWord b ≡ true

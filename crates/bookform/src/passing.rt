@@ -98,23 +98,30 @@ fn each_stands(book: &[u8], from: usize, to: usize, between: u8) -> bool
     true
 }
 
+// The same, however many there are.
+fn all_stand(book: &[u8], from: usize, to: usize, between: u8) -> bool
+    requires { ⌜ (1 ≤ from) × (from ≤ length (now book)) × (to ≤ length (now book)) × (isWord (getD (now book) (from - 1) 0) ≡ true) ⌝ }
+    ensures { λ r. ⌜ (r ≡ true → Standing between (now (book .entry)) from to) ⌝ }
+{
+    if to < from + 8 {
+        return each_stands(book, from, to, between);
+    }
+    eights_stand(book, from, to, between)
+}
+
 // Whether a name stands from a place up to another: words, and between two of them one byte.
 fn is_name(book: &[u8], start: usize, end: usize, between: u8) -> bool
     requires { ⌜ (start < end) × (end ≤ length (now book)) ⌝ }
     ensures { λ r. ⌜ (r ≡ true → IsName between (now (book .entry)) start end) ⌝ }
 {
-    let from = start + 1;
-    let to = end - 1;
+    let last = end - 1;
     if !is_word(book[start]) {
         return false;
     }
-    if !is_word(book[to]) {
+    if !is_word(book[last]) {
         return false;
     }
-    if from + 8 <= to {
-        return eights_stand(book, from, to, between);
-    }
-    each_stands(book, from, to, between)
+    all_stand(book, start + 1, last, between)
 }
 
 // The end of the name behind the length byte at a place; 0 if the one or the other is not right.
