@@ -88,7 +88,28 @@ pub fn boundaries(sink: &mut Sink) {
             deep_lines(language, opening, &book, sink);
         }
     }
+    for (language, prefix, flags, line) in [
+        ("c", "omp", 0, "#pragma omp p a i(x)"),
+        ("c", "acc", 2, "#pragma acc P a"),
+        ("free", "omp", 1, "!$omp p a,I(x)"),
+        ("free", "acc", 3, "!$ACC P A"),
+        ("fixed", "omp", 1, "c$omp p a"),
+        ("fixed", "omp", 3, "C$Omp P i(x)"),
+    ] {
+        every_byte(language, prefix, &Book::small(flags, 3).bytes(), line, sink);
+    }
     wrong_books(sink);
+}
+
+/// Each byte of a line changed to each value: where case is ignored, the two cases of a letter are read alike and no other two bytes.
+fn every_byte(language: &str, prefix: &str, book: &[u8], line: &str, sink: &mut Sink) {
+    for at in 0..line.len() {
+        let mut changed = line.as_bytes().to_vec();
+        for byte in 0..=255 {
+            changed[at] = byte;
+            sink.give(ask(language, prefix, Sizes::for_line(line.len(), 3), book, &changed));
+        }
+    }
 }
 
 fn full_lines(language: &str, opening: &str, ending: &str, book: &[u8], sink: &mut Sink) {
