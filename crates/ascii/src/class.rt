@@ -1,4 +1,4 @@
-// The classes of the 256 bytes, and the questions that steps ask of a byte, each by its class.
+// The classes of the 256 bytes, the questions that steps ask of a byte, by its class or before it, and the fold of a letter.
 ghost use mathlib.Core.Path.{_≡_};
 ghost use Rattle.ascii.specs.Ascii.{classOf, isTrimmed, isSpace, isBlank, isEol, isDigit, isLetter, isWord, fold as folded};
 
