@@ -41,12 +41,24 @@ int main(void) {
     uint64_t rest[1];
     uint64_t count = pelzurda_sequence(book, sizeof book - 1, (const uint8_t *)"nowait, collapse", 16, records, 8, rest);
     printf("refusal %u at %u, rest %u\n", (unsigned)pelzurda_number(count), (unsigned)pelzurda_place(count), (unsigned)rest[0]);
-    /* the answers of two lines under one check of the book */
-    const char lines[] = "#pragma omp parallel for nowait\n#pragma omp barrier\n";
-    const size_t ends[2] = {32, sizeof lines - 1};
-    uint64_t answers[2][5];
-    uint64_t answered = pelzurda_lines(PELZURDA_C, PELZURDA_OMP, book, sizeof book - 1, (const uint8_t *)lines, sizeof lines - 1, ends, 2, text, 64, map, 65, 8, answers, 2);
-    printf("%u lines: entry %u, refusal %u at %u\n", (unsigned)answered, (unsigned)answers[0][0], (unsigned)pelzurda_number(answers[1][0]), (unsigned)pelzurda_place(answers[1][0]));
+    /* the answers of four lines under one check of the book; in the second a blank stands behind the hash, in the last a comment without an end */
+    const char lines[] = "#pragma omp parallel for nowait\n# pragma omp parallel for nowait\n#pragma omp barrier\n# /* pragma\n";
+    const size_t ends[4] = {32, 65, 85, sizeof lines - 1};
+    uint64_t answers[4][5];
+    uint64_t answered = pelzurda_lines(PELZURDA_C, PELZURDA_OMP, book, sizeof book - 1, (const uint8_t *)lines, sizeof lines - 1, ends, 4, text, 64, map, 65, 8, answers, 4);
+    for (uint64_t k = 0; k < answered; k++) {
+        if (pelzurda_is_refused(answers[k][0])) {
+            printf("line %u: refusal %u at %u\n", (unsigned)k, (unsigned)pelzurda_number(answers[k][0]), (unsigned)pelzurda_place(answers[k][0]));
+        } else {
+            printf("line %u: entry %u, name %u to %u\n", (unsigned)k, (unsigned)answers[k][0], (unsigned)answers[k][1], (unsigned)answers[k][2]);
+        }
+    }
+    if (answered != 4 || answers[0][1] != 12 || answers[0][2] != 24 || answers[1][1] != 13 || answers[1][2] != 25) {
+        return 1;
+    }
+    if (pelzurda_number(answers[3][0]) != PELZURDA_UNCLOSED_COMMENT || pelzurda_place(answers[3][0]) != 2) {
+        return 1;
+    }
     /* and of two texts of clauses */
     const char texts[] = "nowaitprivate(i) nowait";
     const size_t text_ends[2] = {6, sizeof texts - 1};
@@ -56,5 +68,5 @@ int main(void) {
     if (counted != 2 || counts[0][0] != 1 || counts[0][1] != 6 || counts[1][0] != 2 || counts[1][1] != 17) {
         return 1;
     }
-    return reading[2] == 2 && pelzurda_number(count) == PELZURDA_NO_CLAUSE && records[0].name_end == 0 && answers[0][0] == 0 && answers[0][3] == 1 && pelzurda_number(answers[1][0]) == PELZURDA_NO_DIRECTIVE ? 0 : 1;
+    return reading[2] == 2 && pelzurda_number(count) == PELZURDA_NO_CLAUSE && records[0].name_end == 0 && answers[0][0] == 0 && answers[0][3] == 1 && pelzurda_number(answers[2][0]) == PELZURDA_NO_DIRECTIVE ? 0 : 1;
 }

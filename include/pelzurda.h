@@ -100,7 +100,8 @@ uint64_t pelzurda_sequence(const uint8_t *book, size_t book_len, const uint8_t *
 
 /* The directive's entry in the book, for a whole line. `reading` gets the start and the end of its name, the number of clauses and the place of the
  * unread rest, all but the number offsets of the joined text; text, map and records stand at the front of their slots. `text` needs as many slots
- * as the line has bytes, `map` one more. From refusal 7 on a place is an offset of the joined text. */
+ * as the line has bytes, `map` one more. From refusal 7 on a place is an offset of the joined text. In C blanks, comments and breaks may stand between
+ * `#` and `pragma`; where `pragma` is missing the line is refused by 7 at the `#`, for an unclosed comment before it by 8 at the comment. */
 uint64_t pelzurda_line(uint32_t language, uint32_t prefix, const uint8_t *book, size_t book_len, const uint8_t *line, size_t line_len, uint8_t *text,
                        size_t text_len, uint16_t *map, size_t map_len, struct pelzurda_record *records, size_t records_len, uint64_t reading[4]);
 

@@ -19,10 +19,13 @@ struct Form {
     number: u32,
     language: Language,
     opening: &'static str,
+    /// Trivia may stand behind the hash.
+    spaced: bool,
 }
 
-const C: Form = Form { number: ours::C, language: Language::C, opening: "#pragma omp parallel for" };
-const FREE: Form = Form { number: ours::FORTRAN_FREE, language: Language::FortranFree, opening: "!$omp parallel for" };
+const C: Form = Form { number: ours::C, language: Language::C, opening: "#pragma omp parallel for", spaced: false };
+const SPACED: Form = Form { spaced: true, ..C };
+const FREE: Form = Form { number: ours::FORTRAN_FREE, language: Language::FortranFree, opening: "!$omp parallel for", spaced: false };
 const RUN_TOGETHER: Form = Form { opening: "!$omp parallelfor", ..FREE };
 
 /// Lines in a call that reads many.
@@ -39,6 +42,14 @@ pub fn rows(report: &Report, folder: &str) {
     }
     for bytes in SIZES {
         spare_row(report, &format!("line {bytes}, small book, 512 record slots"), &books[0].1, &directive(C, bytes, 0));
+    }
+    report.heading("trivia behind the hash, against the Rust's steps with its own trivia in lex_pragma's place", "Rust ns");
+    for bytes in [60, 400] {
+        spaced_row(report, &format!("line {bytes}, a blank behind the hash, small book"), &books[0].1, " ", bytes);
+    }
+    for bytes in [8_192, 16_384] {
+        let comments = "/**/".repeat(bytes / 4 - 8);
+        spaced_row(report, &format!("line {bytes}, comments behind the hash"), &books[0].1, &comments, bytes);
     }
     report.heading("the same by the line, 100 lines a call under one check of the book", "Rust ns");
     for (title, book) in &books {
@@ -90,7 +101,10 @@ fn opened(form: Form, text: &str) -> Option<&str> {
         return Some(skip_fortran_space1_and_comments(rest).ok()?.0);
     }
     let rest = skip_space_and_comments(text).ok()?.0;
-    let rest = lex_pragma(rest).ok()?.0;
+    let rest = match form.spaced {
+        true => skip_space_and_comments(rest.strip_prefix('#')?).ok()?.0.strip_prefix("pragma")?,
+        false => lex_pragma(rest).ok()?.0,
+    };
     let rest = skip_space1_and_comments(rest).ok()?.0;
     let rest = lex_dialect_keyword(rest, "omp").ok()?.0;
     Some(skip_space1_and_comments(rest).ok()?.0)
@@ -180,6 +194,25 @@ fn spare_row(report: &Report, name: &str, book: &[u8], line: &str) {
         black_box(&mut cleared).fill(ours::ClauseRecord::BEFORE);
         theirs(C, registries, black_box(line)).unwrap_or(0)
     });
+}
+
+/// A line with a gap behind its hash, which the published Rust refuses; our answer is its answer to the line without the gap, so many bytes on.
+fn spaced_row(report: &Report, name: &str, book: &[u8], gap: &str, bytes: usize) {
+    if !report.wants(name) {
+        return;
+    }
+    let mut shelf = Shelf::default();
+    let plain = directive(C, bytes - gap.len(), 0);
+    let line = plain.replacen('#', &format!("#{gap}"), 1);
+    let (mut slots, answer) = answered(C, book, &plain, &mut shelf);
+    let [start, end, count, rest] = slots.reading;
+    let on = gap.len() as u64;
+    slots = Slots::new(&line, slots.records.len());
+    assert_eq!(slots.read(C, book, &line), answer, "{name}");
+    assert_eq!(slots.reading, [start + on, end + on, count, rest + on], "{name}");
+    let registries = shelf.book(book).expect("a valid book");
+    assert_eq!(theirs(SPACED, registries, &line), Some(count as usize), "{name}");
+    report.row(name, line.len(), || slots.read(C, book, black_box(&line)) as usize, || theirs(SPACED, registries, black_box(&line)).unwrap_or(0));
 }
 
 fn many_row(report: &Report, name: &str, form: Form, book: &[u8], line: impl Fn(usize) -> String) {

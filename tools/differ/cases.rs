@@ -122,6 +122,17 @@ pub fn hexadecimal(bytes: &[u8]) -> String {
     digits
 }
 
+/// A request's bytes; none if they aren't written as above.
+pub fn bytes_of(word: &str) -> Option<Vec<u8>> {
+    if word == "-" {
+        return Some(Vec::new());
+    }
+    let pairs = word.as_bytes().chunks(2);
+    pairs
+        .map(|pair| u8::from_str_radix(std::str::from_utf8(pair).ok()?, 16).ok())
+        .collect()
+}
+
 /// Slots as an answer has them.
 pub fn listed(values: &[usize], slots: usize) -> String {
     let filled = values.iter().rposition(|value| *value != 0).map_or(0, |last| last + 1);

@@ -2,7 +2,9 @@
 
 mod books;
 mod cases;
+mod due;
 mod generate;
+mod hash;
 mod laws;
 mod random;
 mod report;
@@ -10,13 +12,14 @@ mod run;
 mod texts;
 
 use cases::Call;
+use due::Due;
 use report::Comparison;
 use run::Program;
 use std::path::{Path, PathBuf};
 use std::process::ExitCode;
 
 const USAGE: &str = "usage: tools/differential [--call CALL,..] [--count N] [--seed S] [--small] [--show N]
-                          [--probe PATH] [--oracle PATH] [--examples PATH] [--emit N]";
+                          [--probe PATH] [--oracle PATH] [--examples PATH] [--emit N] [--answers]";
 
 const COUNT: usize = 100_000;
 const SMALL_COUNT: usize = 5_000;
@@ -31,6 +34,7 @@ struct Options {
     seed: u64,
     show: usize,
     emit: Option<usize>,
+    answers: bool,
     /// Requests that go before the generated ones.
     examples: Vec<String>,
     probe: PathBuf,
@@ -43,6 +47,7 @@ fn main() -> ExitCode {
     match options(&arguments) {
         Ok(options) => match options.emit {
             Some(size) => emit(&options, size),
+            None if options.answers => answer(&options),
             None => compare(&options),
         },
         Err(problem) => {
@@ -59,6 +64,7 @@ fn options(arguments: &[String]) -> Result<Options, String> {
         seed: 1,
         show: 50,
         emit: None,
+        answers: false,
         examples: Vec::new(),
         probe: "target/bin/probe".into(),
         oracle: "target/oracle/oracle".into(),
@@ -68,6 +74,10 @@ fn options(arguments: &[String]) -> Result<Options, String> {
     while let Some(option) = rest.next() {
         if option == "--small" {
             options.count = SMALL_COUNT;
+            continue;
+        }
+        if option == "--answers" {
+            options.answers = true;
             continue;
         }
         let value = rest.next().ok_or(format!("{option} wants a value"))?;
@@ -101,11 +111,15 @@ fn calls(words: &str) -> Result<Vec<Call>, String> {
     words.split(',').map(call).collect()
 }
 
-fn compare(options: &Options) -> ExitCode {
-    let oracle = Program {
+fn oracle(options: &Options) -> Program {
+    Program {
         name: "oracle",
         path: options.oracle.clone(),
-    };
+    }
+}
+
+fn compare(options: &Options) -> ExitCode {
+    let oracle = oracle(options);
     let probe = Program {
         name: "probe",
         path: options.probe.clone(),
@@ -157,6 +171,19 @@ fn known_calls(probe: &Program, scratch: &Path) -> Vec<Call> {
         is_known
     });
     known.collect()
+}
+
+/// Prints the answers due to the requests of standard input.
+fn answer(options: &Options) -> ExitCode {
+    let oracle = oracle(options);
+    let text = std::io::read_to_string(std::io::stdin()).expect("requests");
+    let requests: Vec<&str> = text.lines().collect();
+    let due = Due::of(&requests);
+    let asked = [requests.clone(), due.more()].concat();
+    for answer in due.answers(&oracle.answers(&asked, &options.scratch).lines) {
+        println!("{answer}");
+    }
+    ExitCode::SUCCESS
 }
 
 /// Prints requests for a stored sample: the examples, and as many as told in equal parts for each call.

@@ -1,6 +1,7 @@
 //! Compares answers, prints what differs, counts the rest.
 
 use crate::cases::{Call, Case};
+use crate::due::Due;
 use crate::run::{Answers, Program, ask_both};
 use std::collections::BTreeMap;
 use std::fs::File;
@@ -38,11 +39,18 @@ impl Kind {
     }
 }
 
-/// How often a law was looked at, and how often on a given answer.
+/// How often something was looked at, and how often on a given answer.
 #[derive(Default)]
-struct LawCount {
-    pairs: usize,
+struct Count {
+    all: usize,
     given: usize,
+}
+
+impl Count {
+    fn count(&mut self, answer: &str) {
+        self.all += 1;
+        self.given += usize::from(answer.starts_with("ok"));
+    }
 }
 
 pub struct Comparison<'a> {
@@ -56,7 +64,9 @@ pub struct Comparison<'a> {
     batch: Vec<Case>,
     batch_bytes: usize,
     kinds: BTreeMap<Kind, usize>,
-    laws: BTreeMap<&'static str, LawCount>,
+    laws: BTreeMap<&'static str, Count>,
+    /// Lines that the Rust's own answer doesn't judge, and how many of them are read.
+    judged: Count,
 }
 
 impl<'a> Comparison<'a> {
@@ -72,6 +82,7 @@ impl<'a> Comparison<'a> {
             batch_bytes: 0,
             kinds: BTreeMap::new(),
             laws: BTreeMap::new(),
+            judged: Count::default(),
         }
     }
 
@@ -91,21 +102,27 @@ impl<'a> Comparison<'a> {
         if batch.is_empty() {
             return;
         }
-        let requests: String = batch.iter().flat_map(|case| [case.request.as_str(), "\n"]).collect();
-        let [oracle, probe] = ask_both([self.oracle, self.probe], &requests, &self.scratch);
+        let requests: Vec<&str> = batch.iter().map(|case| case.request.as_str()).collect();
+        let due = Due::of(&requests);
+        let asked = [requests.clone(), due.more()].concat();
+        let [oracle, probe] = ask_both([(self.oracle, &asked), (self.probe, &requests)], &self.scratch);
         for answers in [&oracle, &probe] {
             self.check_end(&batch, answers);
         }
+        let expected = due.answers(&oracle.lines);
         for (index, case) in batch.iter().enumerate() {
-            let (Some(expected), Some(found)) = (oracle.lines.get(index), probe.lines.get(index)) else {
+            let (Some(expected_answer), Some(found)) = (expected.get(index), probe.lines.get(index)) else {
                 break;
             };
-            *self.kinds.entry(Kind::of(expected)).or_default() += 1;
-            if expected != found || expected == "oracle inconsistent" {
-                self.differs(&[&case.request], &[("oracle", expected), ("probe", found)]);
+            *self.kinds.entry(Kind::of(expected_answer)).or_default() += 1;
+            if due.is_judged(index) {
+                self.judged.count(expected_answer);
+            }
+            if expected_answer != found || expected_answer == "oracle inconsistent" {
+                self.differs(&[&case.request], &[("due", expected_answer), ("probe", found)]);
             }
             // The probe's answers are these, or differ already.
-            self.check_law(&batch, index, &oracle);
+            self.check_law(&batch, index, &expected);
         }
     }
 
@@ -122,14 +139,12 @@ impl<'a> Comparison<'a> {
         );
     }
 
-    fn check_law(&mut self, batch: &[Case], index: usize, answers: &Answers) {
+    fn check_law(&mut self, batch: &[Case], index: usize, answers: &[String]) {
         let Some(law) = &batch[index].law else {
             return;
         };
-        let (before, answer) = (&answers.lines[index - 1], &answers.lines[index]);
-        let count = self.laws.entry(law.name()).or_default();
-        count.pairs += 1;
-        count.given += usize::from(before.starts_with("ok"));
+        let (before, answer) = (&answers[index - 1], &answers[index]);
+        self.laws.entry(law.name()).or_default().count(before);
         if !law.holds(before, answer) {
             self.differs(
                 &[&batch[index - 1].request, &batch[index].request],
@@ -166,7 +181,14 @@ impl<'a> Comparison<'a> {
         println!("{}: {total} compared ({})", call.word(), kinds.join(", "));
         println!("  not the Rust's but added: {}", call.added());
         for (law, count) in &self.laws {
-            println!("  {law}: {} pairs, {} of them readings", count.pairs, count.given);
+            println!("  {law}: {} pairs, {} of them readings", count.all, count.given);
+        }
+        let judged = std::mem::take(&mut self.judged);
+        if judged.all > 0 {
+            println!(
+                "  trivia behind the hash: {} of these judged by document 02 in place of the Rust, {} of them readings",
+                judged.all, judged.given
+            );
         }
         self.kinds.clear();
         self.laws.clear();

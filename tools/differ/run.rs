@@ -1,4 +1,4 @@
-//! Puts a batch of requests to two programs at once.
+//! Puts batches of requests to programs, to two at once.
 
 use std::fs::{self, File};
 use std::io;
@@ -27,7 +27,10 @@ impl Program {
     fn finish(&self, started: io::Result<Child>, expected: usize) -> Answers {
         let output = match started.and_then(Child::wait_with_output) {
             Ok(output) => output,
-            Err(error) => return Answers::none(format!("{} can't be run: {error}", self.name)),
+            Err(error) => {
+                let failure = Some(format!("{} can't be run: {error}", self.name));
+                return Answers { lines: Vec::new(), failure };
+            }
         };
         let lines: Vec<String> = String::from_utf8_lossy(&output.stdout)
             .lines()
@@ -47,34 +50,26 @@ impl Program {
         Answers { lines, failure }
     }
 
+    /// The answers to requests, in order.
+    pub fn answers(&self, requests: &[&str], scratch: &Path) -> Answers {
+        let file = scratch.join(format!("requests-{}", self.name));
+        let lines: String = requests.iter().flat_map(|request| [request, "\n"]).collect();
+        let started = fs::write(&file, lines).and_then(|()| self.start(&file));
+        self.finish(started, requests.len())
+    }
+
     /// The answer to a single request, empty if there is none.
     pub fn ask(&self, request: &str, scratch: &Path) -> String {
-        let file = scratch.join("question");
-        let started = fs::write(&file, format!("{request}\n")).and_then(|()| self.start(&file));
-        self.finish(started, 1).lines.pop().unwrap_or_default()
+        self.answers(&[request], scratch).lines.pop().unwrap_or_default()
     }
 }
 
-impl Answers {
-    fn none(failure: String) -> Self {
-        Self {
-            lines: Vec::new(),
-            failure: Some(failure),
-        }
-    }
-}
-
-/// The requests go through a file, so that neither program waits for the other.
-pub fn ask_both(programs: [&Program; 2], requests: &str, scratch: &Path) -> [Answers; 2] {
-    let file = scratch.join("requests");
-    let expected = requests.lines().count();
-    if let Err(error) = fs::write(&file, requests) {
-        return programs.map(|_| Answers::none(format!("{} can't be written: {error}", file.display())));
-    }
+/// Each program gets its own requests, through a file, so that neither waits for the other.
+pub fn ask_both(programs: [(&Program, &[&str]); 2], scratch: &Path) -> [Answers; 2] {
     let [first, second] = programs;
     std::thread::scope(|scope| {
-        let running = scope.spawn(|| first.finish(first.start(&file), expected));
-        let answers = second.finish(second.start(&file), expected);
+        let running = scope.spawn(|| first.0.answers(first.1, scratch));
+        let answers = second.0.answers(second.1, scratch);
         [running.join().expect("no panic"), answers]
     })
 }

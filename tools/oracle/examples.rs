@@ -1,5 +1,6 @@
-//! Puts a file of examples to a program that answers requests, and compares. Usage: examples FILE PROGRAM
-//! With PROGRAM `-` the requests are printed instead.
+//! Puts a file of examples to a program that answers requests, and compares. Usage: examples FILE PROGRAM [--01]
+//! With PROGRAM `-` the requests are printed instead. `--01` leaves out what stands behind the line `document 02`: the oracle's Rust knows
+//! nothing of it.
 //!
 //! `let NAME = BYTES` names bytes, `REQUEST => ANSWER` is an example, `#` begins a comment line. BYTES are `"text"` with the
 //! escapes \n \r \t \v \f \\ \" \xHH, repeated by `*COUNT`, or names, put together by `+`. In an answer `"text"` stands for its
@@ -20,12 +21,16 @@ struct Example {
 
 fn main() -> ExitCode {
     let arguments: Vec<String> = std::env::args().skip(1).collect();
-    let [file, program] = arguments.as_slice() else {
-        eprintln!("usage: examples FILE PROGRAM");
-        return ExitCode::from(2);
+    let (file, program, is_01) = match arguments.iter().map(String::as_str).collect::<Vec<_>>()[..] {
+        [file, program] => (file, program, false),
+        [file, program, "--01"] => (file, program, true),
+        _ => {
+            eprintln!("usage: examples FILE PROGRAM [--01]");
+            return ExitCode::from(2);
+        }
     };
     let text = std::fs::read_to_string(file).expect("the file of examples");
-    let examples = examples(&text);
+    let examples = examples(&text, is_01);
     let requests: String = examples.iter().map(|e| e.request.clone() + "\n").collect();
     if program == "-" {
         print!("{requests}");
@@ -77,13 +82,16 @@ fn shortened(text: &str) -> String {
     }
 }
 
-fn examples(text: &str) -> Vec<Example> {
+fn examples(text: &str, is_01: bool) -> Vec<Example> {
     let mut names = Names::new();
     let mut examples = Vec::new();
     for (index, line) in text.lines().enumerate() {
         let line_number = index + 1;
         let line = line.trim();
-        if line.is_empty() || line.starts_with('#') {
+        if is_01 && line == "document 02" {
+            break;
+        }
+        if line.is_empty() || line.starts_with('#') || line == "document 02" {
             continue;
         }
         if let Some(definition) = line.strip_prefix("let ") {

@@ -9,9 +9,12 @@ use lib.ListN.{length, getD}
 use lib.Dec.{eqb}
 use Rattle.ascii.specs.Text.{begins}
 use Rattle.ascii.proofs.Flags.{and-right}
+use Rattle.lexer.specs.declared.Step.{Step}
+use Rattle.lexer.specs.declared.Step.the-variants.{At, Refused}
 use Rattle.lexer.specs.declared.Prefix.{Prefix}
 use Rattle.lexer.specs.declared.Prefix.the-variants.{Omp, Acc}
 use Rattle.lexer.specs.Continuation.{prefixBytes}
+use Rattle.lexer.specs.Steps.{Forward}
 
 -- what is not 0 stands inside the text
 pub inside : (s : List ℕ) (k b : ℕ) → 0 < b → getD s k 0 ≡ b → k < length s
@@ -29,3 +32,8 @@ begins-fits f (p ∷ w) (x ∷ xs) e = suc-le-suc (begins-fits f w xs (and-right
 pub prefix-length : (p : Prefix) → length (prefixBytes p) ≡ 3
 prefix-length Omp = refl
 prefix-length Acc = refl
+
+-- a step goes forward from any place before its own
+pub forward-since : (a b n : ℕ) (s : Step) → a ≤ b → Forward b n s → Forward a n s
+forward-since a b n (At c) h f = (omega (arith, h, f .0), f .1)
+forward-since a b n (Refused r) h f = tt

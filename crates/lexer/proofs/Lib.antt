@@ -2,3 +2,4 @@ pub mod Bounds
 pub mod Laws
 pub mod Continuing
 pub mod Skipping
+pub mod Pragma

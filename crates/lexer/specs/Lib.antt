@@ -1,3 +1,4 @@
 pub mod Continuation
 pub mod Trivia
 pub mod Steps
+pub mod Laws

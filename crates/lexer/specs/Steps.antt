@@ -1,12 +1,12 @@
 -- Steps of a cursor: "a place in the text that moves forward and hands itself back, or a refusal".
 use Prim.Native.Nat.{ℕ, _+_, _≤_}
-use mathlib.Core.Bool.{Bool, cond}
+use mathlib.Core.Bool.{Bool, false, cond}
 use mathlib.Core.List.{List}
 use lib.ListN.{length, drop}
 use lib.Dec.{eqb}
 use Rattle.ascii.specs.Ascii.{isWord, exactly}
-use Rattle.ascii.specs.Text.{leading, begins}
-use Rattle.refusal.specs.Answer.{Answer, given, refused, refusedBy}
+use Rattle.ascii.specs.Text.{bytes, leading, begins}
+use Rattle.refusal.specs.Answer.{Answer, given, refused, refusedBy, andThen}
 use Rattle.lexer.specs.declared.Step.{Step}
 use Rattle.lexer.specs.declared.Step.the-variants.{At, Refused}
 use Rattle.lexer.specs.declared.Skipped.{Skipped}
@@ -34,9 +34,21 @@ passedSome at (OpenAt p) = refused 8 p
 abbrev pub someTriviaStep : Bool → List ℕ → ℕ → Answer ℕ
 someTriviaStep f text at = passedSome at (skip f text at)
 
--- a fixed word (nom's `tag`): row 7 where it is not
+-- a fixed word (nom's `tag`) as the last part of a step that began at place from: row 7, "where the failing step began"
+abbrev pub wordBehind : ℕ → List ℕ → List ℕ → ℕ → Answer ℕ
+wordBehind from word text at = cond (begins exactly word (drop at text)) (given (at + length word)) (refused 7 from)
+
+-- a fixed word that is a step by itself
 abbrev pub wordStep : List ℕ → List ℕ → ℕ → Answer ℕ
-wordStep word text at = cond (begins exactly word (drop at text)) (given (at + length word)) (refused 7 at)
+wordStep word text at = wordBehind at word text at
+
+-- `lex_pragma` with 02, P1: "In C the opening words now allow the usual trivia between `#` and `pragma`, comments and none included"; "a missing word is
+-- still 7 at the `#`, and a comment unclosed there is 8 at its start"
+abbrev pub pragmaStep : List ℕ → ℕ → Answer ℕ
+pragmaStep text at =
+    andThen (wordStep (bytes "#") text at) (λ hash.
+    andThen (triviaStep false text hash) (λ behind.
+    wordBehind at (bytes "pragma") text behind))
 
 -- `lex_identifier`, nom's `take_while1`: the end of the longest run of word bytes, the place itself where there is none
 abbrev pub wordEnd : List ℕ → ℕ → ℕ

@@ -9,7 +9,7 @@ ghost use mathlib.Core.Path.{_≡_};
 ghost use Prim.Native.Nat.{_≤_};
 ghost use lib.ListN.{length};
 ghost use Rattle.lexer.specs.Continuation.{prefixBytes};
-ghost use Rattle.lexer.specs.Steps.{stepOf, triviaStep, someTriviaStep, wordStep, wordEnd, Forward};
+ghost use Rattle.lexer.specs.Steps.{stepOf, triviaStep, someTriviaStep, wordBehind, wordStep, pragmaStep, wordEnd, Forward};
 
 // The language of a line, with the source form of Fortran.
 pub enum Language {
@@ -88,10 +88,10 @@ impl Cursor {
         }
     }
 
-    // Past a fixed word.
-    pub fn word(self, text: &[u8], word: &[u8]) -> Step
+    // Past a fixed word, the last part of a step that began at place from: the step is refused there.
+    fn word_behind(self, text: &[u8], word: &[u8], from: usize) -> Step
         requires { ⌜ self .at ≤ length (now text) ⌝ }
-        ensures { λ r. ⌜ stepOf r ≡ wordStep (now (word .entry)) (now (text .entry)) (self .at) ⌝ }
+        ensures { λ r. ⌜ stepOf r ≡ wordBehind from (now (word .entry)) (now (text .entry)) (self .at) ⌝ }
         ensures { λ r. ⌜ Forward (self .at) (length (now (text .entry))) r ⌝ }
     {
         let at = self.at;
@@ -102,8 +102,40 @@ impl Cursor {
         }
         Step::Refused(Refusal {
             reason: Reason::NoOpening,
-            place: at,
+            place: from,
         })
+    }
+
+    // Past a fixed word.
+    pub fn word(self, text: &[u8], word: &[u8]) -> Step
+        requires { ⌜ self .at ≤ length (now text) ⌝ }
+        ensures { λ r. ⌜ stepOf r ≡ wordStep (now (word .entry)) (now (text .entry)) (self .at) ⌝ }
+        ensures { λ r. ⌜ Forward (self .at) (length (now (text .entry))) r ⌝ }
+    {
+        let from = self.at;
+        self.word_behind(text, word, from)
+    }
+
+    // Past `#`, trivia or none, and `pragma`, as one step: a word that is missing is refused where the step began.
+    pub fn pragma(self, text: &[u8]) -> Step
+        requires { ⌜ self .at ≤ length (now text) ⌝ }
+        ensures { λ r. ⌜ stepOf r ≡ pragmaStep (now (text .entry)) (self .at) ⌝ }
+        ensures { λ r. ⌜ Forward (self .at) (length (now (text .entry))) r ⌝ }
+    {
+        let from = self.at;
+        let a = match self.word(text, b"#") {
+            Step::At(a) => a,
+            Step::Refused(r) => {
+                return Step::Refused(r);
+            }
+        };
+        let b = match a.trivia(text, false) {
+            Step::At(b) => b,
+            Step::Refused(unclosed) => {
+                return Step::Refused(unclosed);
+            }
+        };
+        b.word_behind(text, b"pragma", from)
     }
 
     // Past the prefix as a word of C.

@@ -11,14 +11,13 @@ use Rattle.refusal.specs.Answer.{given, refused}
 use Rattle.lexer.specs.declared.Language.{Language}
 use Rattle.lexer.specs.declared.Prefix.{Prefix}
 use Rattle.lexer.specs.declared.Step.{Step}
-use Rattle.lexer.specs.declared.Step.the-variants.{At, Refused}
 use Rattle.lexer.specs.Continuation.{openingSentinel}
 use Rattle.lexer.specs.Steps.{triviaStep, someTriviaStep, Forward}
+use Rattle.lexer.proofs.Laws.{forward-since}
 use Rattle.reader.specs.Line.{openingF}
 
 pub from-start : (a n : ℕ) (s : Step) → Forward a n s → Forward 0 n s
-from-start a n (At c) h = (omega arith, h .1)
-from-start a n (Refused r) h = tt
+from-start a n s h = forward-since 0 a n s (omega arith) h
 
 -- Fortran's opening words behind trivia of C that ends at place a, where a sentinel of n bytes stands or none
 module _ (l : Language) (p : Prefix) (t : List ℕ) (a n : ℕ) (came : triviaStep false t 0 ≡ given a) (here : n ≡ openingSentinel l p (drop a t)) where

@@ -8,7 +8,6 @@ use native.Mathlib.Omega.{arith}
 use lib.ListN.{length, drop}
 use lib.Dec.{eqb}
 use borrow.Author.Tests.{eqb-false}
-use Rattle.ascii.specs.Text.{bytes}
 use Rattle.refusal.specs.Answer.{Answer, given, refused, andThen, slots}
 use Rattle.refusal.proofs.Answers.{never, Sure, sure-cond, sure-fault, sure-admitted, sure-then, sure-past}
 use Rattle.lexer.specs.declared.Language.{Language}
@@ -18,7 +17,7 @@ use Rattle.lexer.specs.declared.Skipped.{Skipped}
 use Rattle.lexer.specs.declared.Skipped.the-variants.{Past, OpenAt}
 use Rattle.lexer.specs.Continuation.{prefixBytes, openingSentinel}
 use Rattle.lexer.specs.Trivia.{skip}
-use Rattle.lexer.specs.Steps.{triviaStep, passedSome, someTriviaStep, wordStep}
+use Rattle.lexer.specs.Steps.{triviaStep, passedSome, someTriviaStep, wordStep, pragmaStep}
 use Rattle.lexer.proofs.Bounds.{skip-bounds}
 use Rattle.validation.specs.Validation.{fault}
 use Rattle.source.specs.Joining.{joinedText}
@@ -56,7 +55,7 @@ openingC-end : (p : Prefix) (text : List ℕ) → Sure (Within text) (openingC p
 unfolding openingC
 openingC-end p text =
     sure-past (Within text) (triviaStep false text 0) _ (λ a.
-    sure-past (Within text) (wordStep (bytes "#pragma") text a) _ (λ b.
+    sure-past (Within text) (pragmaStep text a) _ (λ b.
     sure-past (Within text) (someTriviaStep false text b) _ (λ d.
     sure-past (Within text) (wordStep (prefixBytes p) text d) _ (λ e.
     some-end false text e))))

@@ -1,5 +1,5 @@
 -- The examples of document 01, evaluated on the definitions that the public calls meet: the marked ones in one statement, the table's and the
--- unmarked ones in another.
+-- unmarked ones in another; and those of document 02's request P1.
 use Prim.Native.Nat.{ℕ, suc}
 use mathlib.Core.Bool.{true, false}
 use mathlib.Core.Path.{_≡_, refl}
@@ -131,3 +131,39 @@ pub table :
     })
 unfolding leading upTo trimmed sameBy begins firstHigh literal blockEnd piece scanFrom matchFrom matching taken nextSolid bracketed turned splitFrom split flat splitCall breakC breakF sentinel sentinelEnded sentinelAny eol commentF marker lead triviaC triviaF skipFrom skip codeLength endsIn continuedF checkLine faultFrom fault keptFrom joinedText joinedMap joinAnswer joinCall spanAnswer badFrom entriesFrom placeAfter clausesOf headerOf bookOf isNamed repeatFrom bookFault bookCall entryFrom ruleAt clauseAt sequenceFrom sequenceAt sequenceCall compact entriesWith entryOf headFrom isHead mayGrow nameFrom nameAt openingC openingF parsed lineAnswer lineWithin
 table = (refl, refl, refl, refl, refl, refl, refl, refl, refl, refl, refl, refl, refl, refl, refl, refl, refl, refl, refl, refl, refl, refl, refl, refl, refl)
+
+-- a book with the directive `p` and no clause, default 3
+abbrev onlyP : List ℕ
+onlyP = bytes "DRB" ++ (0 ∷ 1 ∷ 0 ∷ 3 ∷ 1 ∷ 0 ∷ 1 ∷ bytes "p")
+
+abbrev opened : List ℕ → Answer Reading
+opened text = line onlyP 0 text .answer
+
+-- the reading of a line that ends with the name `p`, at that place
+abbrev named : ℕ → Answer Reading
+named at = given (record { entry = 0; «name_start» = at; «name_end» = suc at; count = 0; rest = suc at })
+
+-- 02, P1: trivia between `#` and `pragma`, and what is none; the last two with a break there, which changes the map alone
+pub behindHash :
+    (opened (bytes "# pragma omp p") ≡ named 13)
+    × (opened (bytes "#/**/pragma omp p") ≡ named 16)
+    × (opened (bytes "# x") ≡ refused 7 0)
+    × (opened (bytes " #") ≡ refused 7 1)
+    × (opened (bytes "# /*") ≡ refused 8 2)
+    × (opened (bytes "#//pragma omp p") ≡ refused 7 0)
+    × (opened (bytes "#pragmaomp p") ≡ refused 7 7)
+    × (opened (bytes " # pragma\n") ≡ refused 7 10)
+    × (opened (bytes "pragma omp p") ≡ refused 7 0)
+    × (opened (bytes "##pragma omp p") ≡ refused 7 0)
+    × (opened (bytes "#\u{b}pragma omp p") ≡ refused 7 0)
+    × (opened (bytes "#\\\\\n\n") ≡ refused 7 0)
+    × (opened (bytes "#\\\npragma omp p") ≡ named 12)
+    × (line onlyP 0 (bytes "#\\\n pragma omp p")
+    ≡ record {
+      answer = named 13;
+      text = bytes "# pragma omp p" ++ replicate 50 0;
+      map = (0 ∷ 3 ∷ 4 ∷ 5 ∷ 6 ∷ 7 ∷ 8 ∷ 9 ∷ 10 ∷ 11 ∷ 12 ∷ 13 ∷ 14 ∷ 15 ∷ 16 ∷ []) ++ replicate 49 0;
+      records = [];
+    })
+unfolding leading upTo sameBy begins firstHigh blockEnd breakC triviaC skipFrom skip checkLine faultFrom fault keptFrom joinedText joinedMap badFrom entriesFrom placeAfter clausesOf headerOf bookOf isNamed repeatFrom bookFault entryFrom ruleAt clauseAt sequenceFrom sequenceAt compact entriesWith entryOf headFrom isHead mayGrow nameFrom nameAt openingC parsed lineAnswer lineWithin
+behindHash = (refl, refl, refl, refl, refl, refl, refl, refl, refl, refl, refl, refl, refl, refl)

@@ -4,14 +4,14 @@ use mathlib.Core.Bool.{Bool, true, false, cond, not}
 use mathlib.Core.List.{List}
 use lib.ListN.{drop}
 use lib.Dec.{eqb}
-use Rattle.ascii.specs.Text.{bytes, begins, firstHigh}
+use Rattle.ascii.specs.Text.{begins, firstHigh}
 use Rattle.refusal.specs.Answer.{Answer, given, refused, andThen, unlessFault, admitted}
 use Rattle.lexer.specs.declared.Language.{Language}
 use Rattle.lexer.specs.declared.Language.the-variants.{C, FortranFree, FortranFixed}
 use Rattle.lexer.specs.declared.Prefix.{Prefix}
 use Rattle.lexer.specs.Continuation.{prefixBytes, sentinel, openingSentinel}
 use Rattle.lexer.specs.Trivia.{skip}
-use Rattle.lexer.specs.Steps.{triviaStep, someTriviaStep, wordStep}
+use Rattle.lexer.specs.Steps.{triviaStep, someTriviaStep, wordStep, pragmaStep}
 use Rattle.validation.specs.Validation.{fault}
 use Rattle.source.specs.Joining.{joinedText}
 use Rattle.source.specs.Calls.{isShort}
@@ -21,12 +21,13 @@ use Rattle.clause.specs.Sequence.{Sequence, sequenceAt}
 use Rattle.directive.specs.declared.DirectiveName.{DirectiveName}
 use Rattle.directive.specs.Name.{nameAt}
 
--- "C: `skip_space_and_comments`, `lex_pragma`, `skip_space1_and_comments`, `lex_dialect_keyword`, `skip_space1_and_comments`"
+-- "C: `skip_space_and_comments`, `lex_pragma`, `skip_space1_and_comments`, `lex_dialect_keyword`, `skip_space1_and_comments`", where by 02, P1, `lex_pragma`
+-- allows "the usual trivia between `#` and `pragma`"
 unfoldable pub openingC : Prefix → List ℕ → Answer ℕ
 unfolding skip begins
 openingC p text =
     andThen (triviaStep false text 0) (λ a.
-    andThen (wordStep (bytes "#pragma") text a) (λ b.
+    andThen (pragmaStep text a) (λ b.
     andThen (someTriviaStep false text b) (λ d.
     andThen (wordStep (prefixBytes p) text d) (λ e.
     someTriviaStep false text e))))

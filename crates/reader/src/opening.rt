@@ -11,7 +11,7 @@ ghost use lib.ListN.{length};
 ghost use Rattle.lexer.specs.Steps.{stepOf, Forward};
 ghost use Rattle.reader.specs.Line.{openingC, openingF, opening as openingOf};
 
-// `#pragma` and the prefix, each with trivia behind it.
+// `#pragma`, perhaps with trivia in it, and the prefix, each with trivia behind it.
 fn opening_c(prefix: Prefix, text: &[u8]) -> Step
     ensures { λ r. ⌜ stepOf r ≡ openingC prefix (now (text .entry)) ⌝ }
     ensures { λ r. ⌜ Forward 0 (length (now (text .entry))) r ⌝ }
@@ -23,7 +23,7 @@ fn opening_c(prefix: Prefix, text: &[u8]) -> Step
             return Step::Refused(r);
         }
     };
-    let b = match a.word(text, b"#pragma") {
+    let b = match a.pragma(text) {
         Step::At(b) => b,
         Step::Refused(r) => {
             return Step::Refused(r);

@@ -10,7 +10,8 @@ use crate::random::Random;
 use crate::texts::{Tokens, damaged, mixed_case, short_texts};
 
 const C_OPENINGS: &Tokens = &[
-    b"#pragma", b"omp", b"acc", b" ", b"/*", b"*/", b"//", b"p", b"a", b"\\\n", b"\n", b"\x0b", b"\t",
+    b"#pragma", b"#", b"pragma", b"omp", b"acc", b" ", b"/*", b"*/", b"//", b"p", b"a", b"\\\n", b"\n", b"\x0b",
+    b"\t",
 ];
 
 const C_TOKENS: &Tokens = &[
@@ -30,6 +31,17 @@ const FORTRAN_TOKENS: &Tokens = &[
 /// Between words, without line ends of their own.
 const C_GAPS: [&str; 8] = ["", "", " ", " ", "\t", "/* c */", "  ", "/**/"];
 const FORTRAN_GAPS: [&str; 10] = ["", "", " ", " ", "\t", "  ", "&\n", " &\n!$& ", "&\r\n  ", "& ! c\n &"];
+
+/// Around the hash: before it, between it and its word, and from there on.
+const BEFORE_HASH: [&str; 8] = ["", " ", "/**/", "\\\n", "\x0b", "/*", "x", "#"];
+const BEHIND_HASH: [&str; 30] = [
+    "", " ", "\t", "\n", "\x0b", "\x0c", "\r", "\r\n", "  \t", "/**/", "/* # */", " /*x*/ //", "//", "// \\\n", "//\n", "/*", " /*", "/*/",
+    "/**//*", "/", "/ ", "\\", "\\ ", "\\\n", "\\\r\n", "\\\n ", " \\\n", "/\\\n**\\\n/", "\\\\\n\n", "#",
+];
+const FROM_WORD: [&str; 16] = [
+    "pragma omp p", "pragma omp p a,i( x ),", "pragma omp p i(x\\\n) a\n", "pragma omp p i(", "pragma omp p z", "pragma omp p /*", "pragma omp z",
+    "pragma acc p", "pragma", "pragma\n", "pragma /*", "pragmaomp p", "pragm", "Pragma omp p", "x", "",
+];
 
 /// Sizes of the lent text, map and records.
 #[derive(Clone, Copy)]
@@ -95,10 +107,35 @@ pub fn boundaries(sink: &mut Sink) {
         ("free", "acc", 3, "!$ACC P A"),
         ("fixed", "omp", 1, "c$omp p a"),
         ("fixed", "omp", 3, "C$Omp P i(x)"),
+        ("c", "omp", 0, " # pragma omp p a"),
+        ("c", "omp", 0, "#/**/pragma omp p"),
+        ("c", "omp", 0, "#\\\n pragma omp p"),
     ] {
         every_byte(language, prefix, &Book::small(flags, 3).bytes(), line, sink);
     }
+    around_hash(sink);
     wrong_books(sink);
+}
+
+/// Trivia, and what is none, behind the hash: each with each beginning and each end of the line, and as much as a line can hold.
+fn around_hash(sink: &mut Sink) {
+    for default in [0, 3] {
+        let book = Book::small(0, default).bytes();
+        for behind in BEHIND_HASH {
+            for (before, word) in BEFORE_HASH.iter().flat_map(|before| FROM_WORD.map(|word| (before, word))) {
+                let line = format!("{before}#{behind}{word}");
+                sink.give(ask("c", "omp", Sizes::for_line(line.len(), 3), &book, line.as_bytes()));
+            }
+        }
+        for (open, filling, close) in [("", " ", ""), ("", "/**/", ""), ("/*", "*", "*/"), ("", "\\\n", ""), ("/*", "*", "")] {
+            for length in [16_383, 16_384, 16_385] {
+                let room = length - "#pragma omp p".len() - open.len() - close.len();
+                let blanks = " ".repeat(room % filling.len());
+                let line = format!("#{open}{}{close}{blanks}pragma omp p", filling.repeat(room / filling.len()));
+                sink.give(ask("c", "omp", Sizes::for_line(length, 3), &book, line.as_bytes()));
+            }
+        }
+    }
 }
 
 /// Each byte of a line changed to each value: where case is ignored, the two cases of a letter are read alike and no other two bytes.
@@ -281,7 +318,11 @@ fn broken_pair(prefix: &str, book: &[u8], text: &[u8], sink: &mut Sink, random: 
 
 fn c_line(prefix: &str, book: &Book, random: &mut Random) -> Vec<u8> {
     let mut line = String::from(random.pick(&["", "", "", " ", "/* c */", "\t"]));
-    line += if random.percent(98) { "#pragma" } else { "#pragm" };
+    line += "#";
+    if random.percent(15) {
+        line += &(0..random.between(1, 3)).map(|_| random.pick(&C_GAPS)).collect::<String>();
+    }
+    line += if random.percent(98) { "pragma" } else { "pragm" };
     line += &required(&C_GAPS, random);
     line += if random.percent(97) { prefix } else { "omp" };
     line += &required(&C_GAPS, random);

@@ -6,10 +6,9 @@ use Prim.Native.Nat.{_≤_}
 use lib.ListN.{length}
 use denote.Ref.{now}
 use borrow.Author.Needs.{needs}
-use Rattle.ascii.specs.Text.{bytes}
 use Rattle.refusal.specs.Answer.{given}
 use Rattle.lexer.specs.Continuation.{prefixBytes}
-use Rattle.lexer.specs.Steps.{stepOf, triviaStep, someTriviaStep, wordStep, Forward}
+use Rattle.lexer.specs.Steps.{stepOf, triviaStep, someTriviaStep, wordStep, pragmaStep, Forward}
 use Rattle.reader.specs.Line.{openingC}
 use Rattle.reader.proofs.OpeningWords.{from-start}
 use Rattle.reader.proofs.opening.opening_c.Statement.{statement}
@@ -28,9 +27,9 @@ at-b : (c : tie.After-known-told3)
     → let t = c .before .before .before .before .before .before .before .before .before .before .args .text .now in
     let a = c .before .before .before .before .before .before .a .given .0 .0 .at in
     let b = c .before .b .given .0 .0 .at in
-    (wordStep (bytes "#pragma") t a ≡ given b) × (b ≤ length t)
+    (pragmaStep t a ≡ given b) × (b ≤ length t)
 at-b c =
-    let r = c .before .before .before .word in
+    let r = c .before .before .before .pragma in
     let g = c .before .b .given .1 in
     (sym (r .ensures .0) ∙ ap stepOf g, subst (Forward _ _) g (r .ensures .1) .1)
 
@@ -58,12 +57,12 @@ returns : tie.Need-returns
 unfolding openingC
 returns c = (simp (sym (c .before .before .before .trivia .ensures .0) ∙ ap stepOf (c .before .r .given .1)), tt)
 
-word-requires : tie.Need-word-requires
-word-requires c κs = at-a (c .before) .1
+pragma-requires : tie.Need-pragma-requires
+pragma-requires c κs = at-a (c .before) .1
 
 returns-2 : tie.Need-returns-2
 unfolding openingC
-returns-2 c = (rw (at-a (c .before .before .before .before .before) .0, sym (c .before .before .before .word .ensures .0) ∙ ap stepOf (c .before .r2 .given .1)), tt)
+returns-2 c = (rw (at-a (c .before .before .before .before .before) .0, sym (c .before .before .before .pragma .ensures .0) ∙ ap stepOf (c .before .r2 .given .1)), tt)
 
 returns-3 : tie.Need-returns-3
 unfolding openingC
@@ -92,7 +91,7 @@ opening-c-spec =
     (λ c. search needs)
     returns
     (λ c. search needs)
-    word-requires
+    pragma-requires
     (λ c. search needs)
     (λ c. search needs)
     returns-2
