@@ -16,19 +16,27 @@ impl Due {
 
     /// What the Rust is asked behind the requests themselves.
     pub fn more(&self) -> Vec<&str> {
-        self.judgements.iter().flatten().filter_map(Judgement::shorter).collect()
+        self.judgements
+            .iter()
+            .flatten()
+            .filter_map(Judgement::shorter)
+            .collect()
     }
 
     /// Its answers to the requests, those that are judged replaced.
     pub fn answers(&self, lines: &[String]) -> Vec<String> {
         let mut more = lines.iter().skip(self.judgements.len());
-        let answers = self.judgements.iter().zip(lines).map(|(judgement, own)| match judgement {
-            None => own.clone(),
-            Some(judgement) => {
-                let shorter = judgement.shorter().and_then(|_| more.next());
-                judgement.answer(own, shorter.map(String::as_str))
-            }
-        });
+        let answers = self
+            .judgements
+            .iter()
+            .zip(lines)
+            .map(|(judgement, own)| match judgement {
+                None => own.clone(),
+                Some(judgement) => {
+                    let shorter = judgement.shorter().and_then(|_| more.next());
+                    judgement.answer(own, shorter.map(String::as_str))
+                }
+            });
         answers.collect()
     }
 

@@ -136,7 +136,9 @@ fn moved(answer: &str, taken: usize, text: &str, map: &str) -> String {
     match (words.as_slice(), lists) {
         (["refused", number, place], _) => {
             let place = further(place, taken);
-            [&[format!("refused {number} {place}").as_str()], lists].concat().join(" : ")
+            [&[format!("refused {number} {place}").as_str()], lists]
+                .concat()
+                .join(" : ")
         }
         (["ok", entry, start, end, count, rest], [_, _, records]) => {
             let (start, end, rest) = (further(start, taken), further(end, taken), further(rest, taken));
@@ -148,7 +150,9 @@ fn moved(answer: &str, taken: usize, text: &str, map: &str) -> String {
 }
 
 fn further(place: &str, taken: usize) -> String {
-    place.parse::<usize>().map_or(place.to_string(), |place| (place + taken).to_string())
+    place
+        .parse::<usize>()
+        .map_or(place.to_string(), |place| (place + taken).to_string())
 }
 
 /// Name and content of each record; a bare one's content stays 0 to 0.

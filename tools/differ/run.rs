@@ -29,7 +29,10 @@ impl Program {
             Ok(output) => output,
             Err(error) => {
                 let failure = Some(format!("{} can't be run: {error}", self.name));
-                return Answers { lines: Vec::new(), failure };
+                return Answers {
+                    lines: Vec::new(),
+                    failure,
+                };
             }
         };
         let lines: Vec<String> = String::from_utf8_lossy(&output.stdout)

@@ -10,8 +10,7 @@ use crate::random::Random;
 use crate::texts::{Tokens, damaged, mixed_case, short_texts};
 
 const C_OPENINGS: &Tokens = &[
-    b"#pragma", b"#", b"pragma", b"omp", b"acc", b" ", b"/*", b"*/", b"//", b"p", b"a", b"\\\n", b"\n", b"\x0b",
-    b"\t",
+    b"#pragma", b"#", b"pragma", b"omp", b"acc", b" ", b"/*", b"*/", b"//", b"p", b"a", b"\\\n", b"\n", b"\x0b", b"\t",
 ];
 
 const C_TOKENS: &Tokens = &[
@@ -35,12 +34,54 @@ const FORTRAN_GAPS: [&str; 10] = ["", "", " ", " ", "\t", "  ", "&\n", " &\n!$& 
 /// Around the hash: before it, between it and its word, and from there on.
 const BEFORE_HASH: [&str; 8] = ["", " ", "/**/", "\\\n", "\x0b", "/*", "x", "#"];
 const BEHIND_HASH: [&str; 30] = [
-    "", " ", "\t", "\n", "\x0b", "\x0c", "\r", "\r\n", "  \t", "/**/", "/* # */", " /*x*/ //", "//", "// \\\n", "//\n", "/*", " /*", "/*/",
-    "/**//*", "/", "/ ", "\\", "\\ ", "\\\n", "\\\r\n", "\\\n ", " \\\n", "/\\\n**\\\n/", "\\\\\n\n", "#",
+    "",
+    " ",
+    "\t",
+    "\n",
+    "\x0b",
+    "\x0c",
+    "\r",
+    "\r\n",
+    "  \t",
+    "/**/",
+    "/* # */",
+    " /*x*/ //",
+    "//",
+    "// \\\n",
+    "//\n",
+    "/*",
+    " /*",
+    "/*/",
+    "/**//*",
+    "/",
+    "/ ",
+    "\\",
+    "\\ ",
+    "\\\n",
+    "\\\r\n",
+    "\\\n ",
+    " \\\n",
+    "/\\\n**\\\n/",
+    "\\\\\n\n",
+    "#",
 ];
 const FROM_WORD: [&str; 16] = [
-    "pragma omp p", "pragma omp p a,i( x ),", "pragma omp p i(x\\\n) a\n", "pragma omp p i(", "pragma omp p z", "pragma omp p /*", "pragma omp z",
-    "pragma acc p", "pragma", "pragma\n", "pragma /*", "pragmaomp p", "pragm", "Pragma omp p", "x", "",
+    "pragma omp p",
+    "pragma omp p a,i( x ),",
+    "pragma omp p i(x\\\n) a\n",
+    "pragma omp p i(",
+    "pragma omp p z",
+    "pragma omp p /*",
+    "pragma omp z",
+    "pragma acc p",
+    "pragma",
+    "pragma\n",
+    "pragma /*",
+    "pragmaomp p",
+    "pragm",
+    "Pragma omp p",
+    "x",
+    "",
 ];
 
 /// Sizes of the lent text, map and records.
@@ -122,16 +163,28 @@ fn around_hash(sink: &mut Sink) {
     for default in [0, 3] {
         let book = Book::small(0, default).bytes();
         for behind in BEHIND_HASH {
-            for (before, word) in BEFORE_HASH.iter().flat_map(|before| FROM_WORD.map(|word| (before, word))) {
+            for (before, word) in BEFORE_HASH
+                .iter()
+                .flat_map(|before| FROM_WORD.map(|word| (before, word)))
+            {
                 let line = format!("{before}#{behind}{word}");
                 sink.give(ask("c", "omp", Sizes::for_line(line.len(), 3), &book, line.as_bytes()));
             }
         }
-        for (open, filling, close) in [("", " ", ""), ("", "/**/", ""), ("/*", "*", "*/"), ("", "\\\n", ""), ("/*", "*", "")] {
+        for (open, filling, close) in [
+            ("", " ", ""),
+            ("", "/**/", ""),
+            ("/*", "*", "*/"),
+            ("", "\\\n", ""),
+            ("/*", "*", ""),
+        ] {
             for length in [16_383, 16_384, 16_385] {
                 let room = length - "#pragma omp p".len() - open.len() - close.len();
                 let blanks = " ".repeat(room % filling.len());
-                let line = format!("#{open}{}{close}{blanks}pragma omp p", filling.repeat(room / filling.len()));
+                let line = format!(
+                    "#{open}{}{close}{blanks}pragma omp p",
+                    filling.repeat(room / filling.len())
+                );
                 sink.give(ask("c", "omp", Sizes::for_line(length, 3), &book, line.as_bytes()));
             }
         }
@@ -320,7 +373,9 @@ fn c_line(prefix: &str, book: &Book, random: &mut Random) -> Vec<u8> {
     let mut line = String::from(random.pick(&["", "", "", " ", "/* c */", "\t"]));
     line += "#";
     if random.percent(15) {
-        line += &(0..random.between(1, 3)).map(|_| random.pick(&C_GAPS)).collect::<String>();
+        line += &(0..random.between(1, 3))
+            .map(|_| random.pick(&C_GAPS))
+            .collect::<String>();
     }
     line += if random.percent(98) { "pragma" } else { "pragm" };
     line += &required(&C_GAPS, random);

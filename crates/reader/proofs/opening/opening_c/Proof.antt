@@ -24,8 +24,8 @@ at-a c =
     (sym (r .ensures .0) ∙ ap stepOf g, subst (Forward _ _) g (r .ensures .1) .1)
 
 at-b : (c : tie.After-known-told3)
-    → let t = c .before .before .before .before .before .before .before .before .before .before .args .text .now in
-    let a = c .before .before .before .before .before .before .a .given .0 .0 .at in
+    → let t = c .before .before .before .before .before .before .before .before .before .args .text .now in
+    let a = c .before .before .before .before .before .a .given .0 .0 .at in
     let b = c .before .b .given .0 .0 .at in
     (pragmaStep t a ≡ given b) × (b ≤ length t)
 at-b c =
@@ -34,7 +34,7 @@ at-b c =
     (sym (r .ensures .0) ∙ ap stepOf g, subst (Forward _ _) g (r .ensures .1) .1)
 
 at-c : (c : tie.After-known-told5)
-    → let t = c .before .before .before .before .before .before .before .before .before .before .before .before .before .before .args .text .now in
+    → let t = c .before .before .before .before .before .before .before .before .before .before .before .before .before .args .text .now in
     let b = c .before .before .before .before .before .b .given .0 .0 .at in
     let d = c .before .c .given .0 .0 .at in
     (someTriviaStep false t b ≡ given d) × (d ≤ length t)
@@ -44,7 +44,7 @@ at-c c =
     (sym (r .ensures .0) ∙ ap stepOf g, subst (Forward _ _) g (r .ensures .1) .1)
 
 at-d : (c : tie.After-known-told7)
-    → let s = c .before .before .before .before .before .before .before .before .before .before .before .before .before .before .before .before .before .before .args in
+    → let s = c .before .before .before .before .before .before .before .before .before .before .before .before .before .before .before .before .before .args in
     let d = c .before .before .before .before .before .c .given .0 .0 .at in
     let e = c .before .d .given .0 .0 .at in
     (wordStep (prefixBytes (s .prefix)) (s .text .now) d ≡ given e) × (e ≤ length (s .text .now))
@@ -57,22 +57,19 @@ returns : tie.Need-returns
 unfolding openingC
 returns c = (simp (sym (c .before .before .before .trivia .ensures .0) ∙ ap stepOf (c .before .r .given .1)), tt)
 
-pragma-requires : tie.Need-pragma-requires
-pragma-requires c κs = at-a (c .before) .1
-
 returns-2 : tie.Need-returns-2
 unfolding openingC
-returns-2 c = (rw (at-a (c .before .before .before .before .before) .0, sym (c .before .before .before .pragma .ensures .0) ∙ ap stepOf (c .before .r2 .given .1)), tt)
+returns-2 c = (rw (at-a (c .before .before .before .before) .0, sym (c .before .before .before .pragma .ensures .0) ∙ ap stepOf (c .before .r2 .given .1)), tt)
 
 returns-3 : tie.Need-returns-3
 unfolding openingC
-returns-3 c = (rw (at-a (c .before .before .before .before .before .before .before .before .before) .0, at-b (c .before .before .before .before) .0, sym (c .before .before .before .some-trivia .ensures .0) ∙ ap stepOf (c .before .r3 .given .1)), tt)
+returns-3 c = (rw (at-a (c .before .before .before .before .before .before .before .before) .0, at-b (c .before .before .before .before) .0, sym (c .before .before .before .some-trivia .ensures .0) ∙ ap stepOf (c .before .r3 .given .1)), tt)
 
 returns-4 : tie.Need-returns-4
 unfolding openingC
 returns-4 c =
     let d = c .before .before .before .before in
-    (rw (at-a (d .before .before .before .before .before .before .before .before .before) .0, at-b (d .before .before .before .before) .0, at-c d .0, sym (c .before .before .before .prefix .ensures .0) ∙ ap stepOf (c .before .r4 .given .1)), tt)
+    (rw (at-a (d .before .before .before .before .before .before .before .before) .0, at-b (d .before .before .before .before) .0, at-c d .0, sym (c .before .before .before .prefix .ensures .0) ∙ ap stepOf (c .before .r4 .given .1)), tt)
 
 returns-5 : tie.Need-returns-5
 unfolding openingC
@@ -80,7 +77,7 @@ returns-5 c =
     let e = c .before in
     let d = e .before .before .before .before in
     let r = c .some-trivia2 in
-    (rw (at-a (d .before .before .before .before .before .before .before .before .before) .0, at-b (d .before .before .before .before) .0, at-c d .0, at-d e .0) (r .ensures .0), from-start _ _ (r .result) (r .ensures .1))
+    (rw (at-a (d .before .before .before .before .before .before .before .before) .0, at-b (d .before .before .before .before) .0, at-c d .0, at-d e .0) (r .ensures .0), from-start _ _ (r .result) (r .ensures .1))
 
 pub opening-c-spec : {M : Type 1} → statement M
 opening-c-spec =
@@ -90,8 +87,7 @@ opening-c-spec =
     (λ c. search needs)
     (λ c. search needs)
     returns
-    (λ c. search needs)
-    pragma-requires
+    (λ c κs. at-a c .1)
     (λ c. search needs)
     (λ c. search needs)
     returns-2
