@@ -45,7 +45,7 @@ pub fn rows(report: &Report, folder: &str) {
     }
     report.heading("trivia behind the hash, against the Rust's steps with its own trivia in lex_pragma's place", "Rust ns");
     for bytes in [60, 400] {
-        spaced_row(report, &format!("line {bytes}, a blank behind the hash, small book"), &books[0].1, " ", bytes);
+        spaced_row(report, &format!("line {bytes}, a blank behind the hash"), &books[0].1, " ", bytes);
     }
     for bytes in [8_192, 16_384] {
         let comments = "/**/".repeat(bytes / 4 - 8);

@@ -23,24 +23,25 @@ impl Due {
             .collect()
     }
 
-    /// Its answers to the requests, those that are judged replaced.
+    /// Its answers to the requests, with those that are judged otherwise replaced.
     pub fn answers(&self, lines: &[String]) -> Vec<String> {
         let mut more = lines.iter().skip(self.judgements.len());
-        let answers = self
-            .judgements
-            .iter()
-            .zip(lines)
-            .map(|(judgement, own)| match judgement {
-                None => own.clone(),
-                Some(judgement) => {
-                    let shorter = judgement.shorter().and_then(|_| more.next());
-                    judgement.answer(own, shorter.map(String::as_str))
-                }
+        let mut answers = Vec::new();
+        for (judgement, own) in self.judgements.iter().zip(lines) {
+            let shorter = judgement.as_ref().and_then(Judgement::shorter);
+            let shorter = shorter.and_then(|_| more.next()).map(String::as_str);
+            answers.push(match judgement {
+                Some(judgement) if judgement.lifts(own) => judgement.answer(own, shorter),
+                _ => own.clone(),
             });
-        answers.collect()
+        }
+        answers
     }
 
-    pub fn is_judged(&self, index: usize) -> bool {
-        self.judgements[index].is_some()
+    /// Whether the Rust's own answer to a request doesn't count.
+    pub fn is_judged(&self, index: usize, own: &str) -> bool {
+        self.judgements[index]
+            .as_ref()
+            .is_some_and(|judgement| judgement.lifts(own))
     }
 }

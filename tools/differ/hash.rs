@@ -67,13 +67,15 @@ impl Judgement {
         }
     }
 
-    /// The answer due: the Rust's own, unless it is the refusal that this request lifts; then by the Rust's answer to the shorter line.
+    /// Whether the Rust's own answer is the refusal that this request lifts; any other, by rows 1 to 6, stands.
+    pub fn lifts(&self, own: &str) -> bool {
+        own.starts_with(&format!("refused 7 {} ", self.hash))
+    }
+
+    /// The answer due in the place of such a refusal, by the Rust's answer to the shorter line.
     pub fn answer(&self, own: &str, shorter: Option<&str>) -> String {
-        let Some(slots) = own.strip_prefix(&format!("refused 7 {} ", self.hash)) else {
-            return own.to_string();
-        };
         match (&self.ruling, shorter) {
-            (Ruling::Refused { number, place }, _) => format!("refused {number} {place} {slots}"),
+            (Ruling::Refused { number, place }, _) => with_head(own, format!("refused {number} {place}")),
             (Ruling::Shorter { taken, text, map, .. }, Some(shorter)) => moved(shorter, *taken, text, map),
             _ => "no answer to the shorter line".to_string(),
         }
@@ -126,22 +128,22 @@ fn behind_trivia(text: &[u8], mut at: usize) -> Result<usize, usize> {
     }
 }
 
+/// An answer with other words before its lists.
+fn with_head(answer: &str, head: String) -> String {
+    match answer.split_once(" : ") {
+        Some((_, lists)) => format!("{head} : {lists}"),
+        None => head,
+    }
+}
+
 /// An answer to the shorter line as one to the line: places are so many bytes further on, text and map are the line's.
 fn moved(answer: &str, taken: usize, text: &str, map: &str) -> String {
     let parts: Vec<&str> = answer.split(" : ").collect();
-    let [head, lists @ ..] = parts.as_slice() else {
-        return answer.to_string();
-    };
-    let words: Vec<&str> = head.split(' ').collect();
-    match (words.as_slice(), lists) {
-        (["refused", number, place], _) => {
-            let place = further(place, taken);
-            [&[format!("refused {number} {place}").as_str()], lists]
-                .concat()
-                .join(" : ")
-        }
+    let words: Vec<&str> = parts[0].split(' ').collect();
+    match (&words[..], &parts[1..]) {
+        (["refused", number, place], _) => with_head(answer, format!("refused {number} {}", further(place, taken))),
         (["ok", entry, start, end, count, rest], [_, _, records]) => {
-            let (start, end, rest) = (further(start, taken), further(end, taken), further(rest, taken));
+            let [start, end, rest] = [start, end, rest].map(|place| further(place, taken));
             let records = moved_records(records, taken);
             format!("ok {entry} {start} {end} {count} {rest} : {text} : {map} : {records}")
         }

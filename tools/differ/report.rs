@@ -115,7 +115,7 @@ impl<'a> Comparison<'a> {
                 break;
             };
             *self.kinds.entry(Kind::of(expected_answer)).or_default() += 1;
-            if due.is_judged(index) {
+            if due.is_judged(index, &oracle.lines[index]) {
                 self.judged.count(expected_answer);
             }
             if expected_answer != found || expected_answer == "oracle inconsistent" {

@@ -46,9 +46,9 @@ wordStep word text at = wordBehind at word text at
 -- still 7 at the `#`, and a comment unclosed there is 8 at its start"
 abbrev pub pragmaStep : List ℕ → ℕ → Answer ℕ
 pragmaStep text at =
-    andThen (wordStep (bytes "#") text at) (λ hash.
-    andThen (triviaStep false text hash) (λ behind.
-    wordBehind at (bytes "pragma") text behind))
+    andThen (wordStep (bytes "#") text at) (λ a.
+    andThen (triviaStep false text a) (λ b.
+    wordBehind at (bytes "pragma") text b))
 
 -- `lex_identifier`, nom's `take_while1`: the end of the longest run of word bytes, the place itself where there is none
 abbrev pub wordEnd : List ℕ → ℕ → ℕ

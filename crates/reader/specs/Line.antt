@@ -21,8 +21,8 @@ use Rattle.clause.specs.Sequence.{Sequence, sequenceAt}
 use Rattle.directive.specs.declared.DirectiveName.{DirectiveName}
 use Rattle.directive.specs.Name.{nameAt}
 
--- "C: `skip_space_and_comments`, `lex_pragma`, `skip_space1_and_comments`, `lex_dialect_keyword`, `skip_space1_and_comments`", where by 02, P1, `lex_pragma`
--- allows "the usual trivia between `#` and `pragma`"
+-- "C: `skip_space_and_comments`, `lex_pragma`, `skip_space1_and_comments`, `lex_dialect_keyword`, `skip_space1_and_comments`", with 02, P1: "In C the
+-- opening words now allow the usual trivia between `#` and `pragma`, comments and none included"
 unfoldable pub openingC : Prefix → List ℕ → Answer ℕ
 unfolding skip begins
 openingC p text =

@@ -1,6 +1,6 @@
 -- `lexer::Cursor::pragma` meets its contract: where each of its parts came to, and the first that fails.
 -- Assumes nothing.
-use mathlib.Core.Path.{_≡_, ap, sym, subst, _∙_}
+use mathlib.Core.Path.{_≡_, ap, sym, _∙_}
 use mathlib.Core.Bool.{false}
 use Prim.Native.Nat.{_≤_}
 use native.Mathlib.Omega.{arith}
@@ -8,8 +8,8 @@ use lib.ListN.{length}
 use borrow.Author.Needs.{needs}
 use Rattle.ascii.specs.Text.{bytes}
 use Rattle.refusal.specs.Answer.{given}
-use Rattle.lexer.specs.Steps.{stepOf, triviaStep, wordStep, Forward}
-use Rattle.lexer.proofs.Laws.{forward-since}
+use Rattle.lexer.specs.Steps.{stepOf, triviaStep, wordStep}
+use Rattle.lexer.proofs.Laws.{forward-since, came-to}
 use Rattle.lexer.proofs.Cursor.pragma.Statement.{statement}
 use Rattle.lexer.proofs.Cursor.pragma.Tie as tie
 
@@ -19,9 +19,7 @@ at-a : (c : tie.After-known-told)
     (wordStep (bytes "#") (s .text .now) (s .self .at) ≡ given a) × (s .self .at ≤ a) × (a ≤ length (s .text .now))
 at-a c =
     let r = c .before .before .before .word in
-    let g = c .before .a .given .1 in
-    let f = subst (Forward _ _) g (r .ensures .1) in
-    (sym (r .ensures .0) ∙ ap stepOf g, f .0, f .1)
+    came-to (c .before .a .given .1) (r .ensures .0) (r .ensures .1)
 
 at-b : (c : tie.After-known-told3)
     → let t = c .before .before .before .before .before .before .before .before .before .before .args .text .now in
@@ -30,9 +28,7 @@ at-b : (c : tie.After-known-told3)
     (triviaStep false t a ≡ given b) × (a ≤ b) × (b ≤ length t)
 at-b c =
     let r = c .before .before .before .trivia in
-    let g = c .before .b .given .1 in
-    let f = subst (Forward _ _) g (r .ensures .1) in
-    (sym (r .ensures .0) ∙ ap stepOf g, f .0, f .1)
+    came-to (c .before .b .given .1) (r .ensures .0) (r .ensures .1)
 
 returns : tie.Need-returns
 returns c = (simp (sym (c .before .before .before .word .ensures .0) ∙ ap stepOf (c .before .r .given .1)), tt)

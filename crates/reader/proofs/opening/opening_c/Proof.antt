@@ -1,6 +1,6 @@
 -- `reader::opening::opening_c` meets its contract: where each of its steps came to, and the first that fails.
 -- Assumes nothing.
-use mathlib.Core.Path.{_≡_, ap, sym, subst, _∙_}
+use mathlib.Core.Path.{_≡_, ap, sym, _∙_}
 use mathlib.Core.Bool.{false}
 use Prim.Native.Nat.{_≤_}
 use lib.ListN.{length}
@@ -8,7 +8,8 @@ use denote.Ref.{now}
 use borrow.Author.Needs.{needs}
 use Rattle.refusal.specs.Answer.{given}
 use Rattle.lexer.specs.Continuation.{prefixBytes}
-use Rattle.lexer.specs.Steps.{stepOf, triviaStep, someTriviaStep, wordStep, pragmaStep, Forward}
+use Rattle.lexer.specs.Steps.{stepOf, triviaStep, someTriviaStep, wordStep, pragmaStep}
+use Rattle.lexer.proofs.Laws.{came-to}
 use Rattle.reader.specs.Line.{openingC}
 use Rattle.reader.proofs.OpeningWords.{from-start}
 use Rattle.reader.proofs.opening.opening_c.Statement.{statement}
@@ -17,41 +18,37 @@ use Rattle.reader.proofs.opening.opening_c.Tie as tie
 at-a : (c : tie.After-known-told)
     → let t = c .before .before .before .before .before .args .text .now in
     let a = c .before .a .given .0 .0 .at in
-    (triviaStep false t 0 ≡ given a) × (a ≤ length t)
+    (triviaStep false t 0 ≡ given a) × (0 ≤ a) × (a ≤ length t)
 at-a c =
     let r = c .before .before .before .trivia in
-    let g = c .before .a .given .1 in
-    (sym (r .ensures .0) ∙ ap stepOf g, subst (Forward _ _) g (r .ensures .1) .1)
+    came-to (c .before .a .given .1) (r .ensures .0) (r .ensures .1)
 
 at-b : (c : tie.After-known-told3)
     → let t = c .before .before .before .before .before .before .before .before .before .args .text .now in
     let a = c .before .before .before .before .before .a .given .0 .0 .at in
     let b = c .before .b .given .0 .0 .at in
-    (pragmaStep t a ≡ given b) × (b ≤ length t)
+    (pragmaStep t a ≡ given b) × (a ≤ b) × (b ≤ length t)
 at-b c =
     let r = c .before .before .before .pragma in
-    let g = c .before .b .given .1 in
-    (sym (r .ensures .0) ∙ ap stepOf g, subst (Forward _ _) g (r .ensures .1) .1)
+    came-to (c .before .b .given .1) (r .ensures .0) (r .ensures .1)
 
 at-c : (c : tie.After-known-told5)
     → let t = c .before .before .before .before .before .before .before .before .before .before .before .before .before .args .text .now in
     let b = c .before .before .before .before .before .b .given .0 .0 .at in
     let d = c .before .c .given .0 .0 .at in
-    (someTriviaStep false t b ≡ given d) × (d ≤ length t)
+    (someTriviaStep false t b ≡ given d) × (b ≤ d) × (d ≤ length t)
 at-c c =
     let r = c .before .before .before .some-trivia in
-    let g = c .before .c .given .1 in
-    (sym (r .ensures .0) ∙ ap stepOf g, subst (Forward _ _) g (r .ensures .1) .1)
+    came-to (c .before .c .given .1) (r .ensures .0) (r .ensures .1)
 
 at-d : (c : tie.After-known-told7)
     → let s = c .before .before .before .before .before .before .before .before .before .before .before .before .before .before .before .before .before .args in
     let d = c .before .before .before .before .before .c .given .0 .0 .at in
     let e = c .before .d .given .0 .0 .at in
-    (wordStep (prefixBytes (s .prefix)) (s .text .now) d ≡ given e) × (e ≤ length (s .text .now))
+    (wordStep (prefixBytes (s .prefix)) (s .text .now) d ≡ given e) × (d ≤ e) × (e ≤ length (s .text .now))
 at-d c =
     let r = c .before .before .before .prefix in
-    let g = c .before .d .given .1 in
-    (sym (r .ensures .0) ∙ ap stepOf g, subst (Forward _ _) g (r .ensures .1) .1)
+    came-to (c .before .d .given .1) (r .ensures .0) (r .ensures .1)
 
 returns : tie.Need-returns
 unfolding openingC
@@ -87,17 +84,17 @@ opening-c-spec =
     (λ c. search needs)
     (λ c. search needs)
     returns
-    (λ c κs. at-a c .1)
+    (λ c κs. at-a c .2)
     (λ c. search needs)
     (λ c. search needs)
     returns-2
-    (λ c κs. at-b c .1)
+    (λ c κs. at-b c .2)
     (λ c. search needs)
     (λ c. search needs)
     returns-3
-    (λ c κs. at-c c .1)
+    (λ c κs. at-c c .2)
     (λ c. search needs)
     (λ c. search needs)
     returns-4
-    (λ c κs. at-d c .1)
+    (λ c κs. at-d c .2)
     returns-5)

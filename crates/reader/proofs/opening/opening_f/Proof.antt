@@ -1,12 +1,13 @@
 -- `reader::opening::opening_f` meets its contract: the trivia of C, the sentinel behind it, and trivia of Fortran.
 -- Assumes nothing.
 use mathlib.Core.Bool.{false}
-use mathlib.Core.Path.{_≡_, ap, sym, subst, _∙_}
+use mathlib.Core.Path.{_≡_, ap, sym, _∙_}
 use Prim.Native.Nat.{_≤_}
 use lib.ListN.{length}
 use borrow.Author.Needs.{needs}
 use Rattle.refusal.specs.Answer.{given}
-use Rattle.lexer.specs.Steps.{stepOf, triviaStep, Forward}
+use Rattle.lexer.specs.Steps.{stepOf, triviaStep}
+use Rattle.lexer.proofs.Laws.{came-to}
 use Rattle.reader.specs.Line.{openingF}
 use Rattle.reader.proofs.OpeningWords.{from-start, opens-not, opens-at}
 use Rattle.reader.proofs.opening.opening_f.Statement.{statement}
@@ -15,11 +16,10 @@ use Rattle.reader.proofs.opening.opening_f.Tie as tie
 at-a : (c : tie.After-known-told)
     → let t = c .before .before .before .before .before .args .text .now in
     let a = c .before .a .given .0 .0 .at in
-    (triviaStep false t 0 ≡ given a) × (a ≤ length t)
+    (triviaStep false t 0 ≡ given a) × (0 ≤ a) × (a ≤ length t)
 at-a c =
     let r = c .before .before .before .trivia in
-    let g = c .before .a .given .1 in
-    (sym (r .ensures .0) ∙ ap stepOf g, subst (Forward _ _) g (r .ensures .1) .1)
+    came-to (c .before .a .given .1) (r .ensures .0) (r .ensures .1)
 
 returns : tie.Need-returns
 unfolding openingF
@@ -44,7 +44,7 @@ opening-f-spec =
     (λ c. search needs)
     (λ c. search needs)
     returns
-    (λ c κs. at-a c .1)
+    (λ c κs. at-a c .2)
     returns-2
     (λ c. search needs)
     (λ c κs. search needs)
