@@ -142,6 +142,26 @@ impl Slots {
         ours::line(form.number, book, line.as_bytes(), &mut self.text, &mut self.map, &mut self.records, &mut self.reading)
     }
 
+    /// The same for a line without breaks that has so many bytes more before the name.
+    fn further(&self, line: &str, on: usize) -> Self {
+        let [start, end, count, rest] = self.reading;
+        let (more, place) = (on as u64, |place: u16| place + on as u16);
+        let record = |record: &ours::ClauseRecord| {
+            let mut moved = *record;
+            (moved.name_start, moved.name_end) = (place(record.name_start), place(record.name_end));
+            if record.parenthesized {
+                (moved.content_start, moved.content_end) = (place(record.content_start), place(record.content_end));
+            }
+            moved
+        };
+        Self {
+            text: line.as_bytes().to_vec(),
+            map: (0..=line.len() as u16).collect(),
+            records: self.records.iter().map(record).collect(),
+            reading: [start + more, end + more, count, rest + more],
+        }
+    }
+
     /// An answer with what the slots hold, as the oracle writes it.
     fn written(&self, answer: u64) -> String {
         let (mut text, mut map) = (Lent::new(self.text.len()), Lent::new(self.map.len()));
@@ -204,14 +224,12 @@ fn spaced_row(report: &Report, name: &str, book: &[u8], gap: &str, bytes: usize)
     let mut shelf = Shelf::default();
     let plain = directive(C, bytes - gap.len(), 0);
     let line = plain.replacen('#', &format!("#{gap}"), 1);
-    let (mut slots, answer) = answered(C, book, &plain, &mut shelf);
-    let [start, end, count, rest] = slots.reading;
-    let on = gap.len() as u64;
-    slots = Slots::new(&line, slots.records.len());
+    let (read, answer) = answered(C, book, &plain, &mut shelf);
+    let mut slots = Slots::new(&line, read.records.len());
     assert_eq!(slots.read(C, book, &line), answer, "{name}");
-    assert_eq!(slots.reading, [start + on, end + on, count, rest + on], "{name}");
+    assert_eq!(slots.written(answer), read.further(&line, gap.len()).written(answer), "{name}");
     let registries = shelf.book(book).expect("a valid book");
-    assert_eq!(theirs(SPACED, registries, &line), Some(count as usize), "{name}");
+    assert_eq!(theirs(SPACED, registries, &line), Some(read.records.len()), "{name}");
     report.row(name, line.len(), || slots.read(C, book, black_box(&line)) as usize, || theirs(SPACED, registries, black_box(&line)).unwrap_or(0));
 }
 

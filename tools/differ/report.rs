@@ -109,20 +109,20 @@ impl<'a> Comparison<'a> {
         for answers in [&oracle, &probe] {
             self.check_end(&batch, answers);
         }
-        let expected = due.answers(&oracle.lines);
+        let answers = due.answers(&oracle.lines);
         for (index, case) in batch.iter().enumerate() {
-            let (Some(expected_answer), Some(found)) = (expected.get(index), probe.lines.get(index)) else {
+            let (Some(answer), Some(found)) = (answers.get(index), probe.lines.get(index)) else {
                 break;
             };
-            *self.kinds.entry(Kind::of(expected_answer)).or_default() += 1;
+            *self.kinds.entry(Kind::of(answer)).or_default() += 1;
             if due.is_judged(index, &oracle.lines[index]) {
-                self.judged.count(expected_answer);
+                self.judged.count(answer);
             }
-            if expected_answer != found || expected_answer == "oracle inconsistent" {
-                self.differs(&[&case.request], &[("due", expected_answer), ("probe", found)]);
+            if answer != found || answer == "oracle inconsistent" {
+                self.differs(&[&case.request], &[("due", answer), ("probe", found)]);
             }
             // The probe's answers are these, or differ already.
-            self.check_law(&batch, index, &expected);
+            self.check_law(&batch, index, &answers);
         }
     }
 

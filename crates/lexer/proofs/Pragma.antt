@@ -35,4 +35,4 @@ unspaced-pragma-stays text at e = go (begins exactly (bytes "#") (drop at text))
 
     go : (hash : Bool) → begins exactly (bytes "#") (drop at text) ≡ hash → pragmaStep text at ≡ wordStep (bytes "#pragma") text at
     go false q = rw (in-parts (drop at text), q) refl
-    go true q = rw (in-parts (drop at text), q, e, drop-drop 1 at text) (word (begins exactly (bytes "pragma") (drop (at + 1) text)))
+    go true q = rw (in-parts (drop at text), q, e q, drop-drop 1 at text) (word (begins exactly (bytes "pragma") (drop (at + 1) text)))

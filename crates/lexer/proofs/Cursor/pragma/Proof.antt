@@ -1,6 +1,6 @@
 -- `lexer::Cursor::pragma` meets its contract: where each of its parts came to, and the first that fails.
 -- Assumes nothing.
-use mathlib.Core.Path.{_≡_, ap, sym, _∙_}
+use mathlib.Core.Path.{_≡_, refl, ap, sym, _∙_}
 use mathlib.Core.Bool.{false}
 use Prim.Native.Nat.{_≤_}
 use native.Mathlib.Omega.{arith}
@@ -34,7 +34,7 @@ returns : tie.Need-returns
 returns c = (simp (sym (c .before .before .before .word .ensures .0) ∙ ap stepOf (c .before .r .given .1)), tt)
 
 returns-2 : tie.Need-returns-2
-returns-2 c = (rw (at-a (c .before .before .before .before) .0, sym (c .before .before .before .trivia .ensures .0) ∙ ap stepOf (c .before .unclosed .given .1)), tt)
+returns-2 c = (rw (at-a (c .before .before .before .before) .0, sym (c .before .before .before .trivia .ensures .0) ∙ ap stepOf (c .before .unclosed .given .1)) refl, tt)
 
 returns-3 : tie.Need-returns-3
 returns-3 c =
