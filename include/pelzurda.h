@@ -77,8 +77,10 @@ struct pelzurda_record {
 uint64_t pelzurda_trim(const uint8_t *text, size_t text_len, uint64_t range[2]);
 
 /* The number of items of a text. Item k starts at items[2 * k] and ends before items[2 * k + 1]. They are separated by commas, or by colons
- * if `colon` is not 0; `<` and `>` are brackets if `angles` is not 0. `items_len` counts numbers, two for an item. */
-uint64_t pelzurda_split(const uint8_t *text, size_t text_len, uint32_t colon, uint32_t angles, uint16_t *items, size_t items_len);
+ * if `colon` is not 0; `<` and `>` are brackets if `angles` is not 0. `language` says whose literals the text has: in C a backslash hides the byte
+ * after it, in Fortran it is a byte like others. Comments are block comments in every language. `items_len` counts numbers, two for an item. */
+uint64_t pelzurda_split(const uint8_t *text, size_t text_len, uint32_t language, uint32_t colon, uint32_t angles, uint16_t *items,
+                        size_t items_len);
 
 /* The length of the text that the physical lines make. The line's byte for text[i] stands at map[i], and one more entry is for the text's end.
  * `text` needs as many slots as the line has bytes, `map` one more. */

@@ -59,6 +59,11 @@ pub fn repeated(pattern: &str, bytes: usize) -> String {
     pattern.chars().cycle().take(bytes).collect()
 }
 
+/// A text of Fortran for the Rust, which knows C's escapes alone: a byte that never means anything in the place of each backslash.
+pub fn without_backslashes(text: &str) -> String {
+    text.replace('\\', "~")
+}
+
 fn load() -> String {
     std::fs::read_to_string("/proc/loadavg").map_or("unknown".into(), |line| line.split(' ').take(3).collect::<Vec<_>>().join(" "))
 }

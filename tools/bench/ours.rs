@@ -2,7 +2,7 @@
 
 unsafe extern "C" {
     fn pelzurda_trim(text: *const u8, text_len: usize, range: *mut [u64; 2]) -> u64;
-    fn pelzurda_split(text: *const u8, text_len: usize, colon: u32, angles: u32, items: *mut u16, items_len: usize) -> u64;
+    fn pelzurda_split(text: *const u8, text_len: usize, language: u32, colon: u32, angles: u32, items: *mut u16, items_len: usize) -> u64;
     fn pelzurda_join(
         language: u32,
         prefix: u32,
@@ -112,8 +112,8 @@ pub fn trim(text: &[u8], range: &mut [u64; 2]) -> u64 {
     unsafe { pelzurda_trim(text.as_ptr(), text.len(), range) }
 }
 
-pub fn split(text: &[u8], colon: bool, angles: bool, items: &mut [u16]) -> u64 {
-    unsafe { pelzurda_split(text.as_ptr(), text.len(), colon.into(), angles.into(), items.as_mut_ptr(), items.len()) }
+pub fn split(text: &[u8], language: u32, colon: bool, angles: bool, items: &mut [u16]) -> u64 {
+    unsafe { pelzurda_split(text.as_ptr(), text.len(), language, colon.into(), angles.into(), items.as_mut_ptr(), items.len()) }
 }
 
 /// With the prefix omp.

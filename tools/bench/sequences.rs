@@ -4,7 +4,7 @@ use crate::answer::{Lent, Record, head};
 use crate::book::{Shelf, rule_of};
 use crate::parser::clause::{ClauseRegistry, ClauseRegistryBuilder};
 use crate::request::Request;
-use crate::{Report, calls, ours};
+use crate::{Report, calls, ours, without_backslashes};
 use std::hint::black_box;
 
 /// Clauses as they stand in programs, bare and with an argument.
@@ -12,6 +12,12 @@ pub const TYPICAL: [&str; 6] = ["nowait", "private(i, j)", "if(n > 1)", "reducti
 
 /// A clause of four bytes: 4,000 of them fit a text.
 const SHORT: [&str; 1] = ["a(b)"];
+
+/// Clauses of Fortran with paths that end in a backslash.
+const PATHS: [&str; 2] = ["private('c:\\data\\', x)", "shared(\"\\\", 'it''s')"];
+
+/// The shortest of them.
+const QUOTES: [&str; 1] = ["a('\\')"];
 
 /// Three directives and ten clauses, default Flexible, for C.
 pub fn small_book() -> Vec<u8> {
@@ -103,6 +109,14 @@ pub fn rows(report: &Report, folder: &str) {
     for count in [1, 10, 500] {
         many_row(report, &format!("sequences {count}, case ignored, openmp.drb"), &book, |turn| clauses(&TYPICAL, turn, count, " ").to_uppercase(), count);
     }
+    report.heading("clauses of Fortran with paths, book checked in the call, against parse_sequence of a registry built before, without backslashes", "Rust ns");
+    let book = with_flags(small_book(), 1);
+    for count in [10, 250, 500] {
+        row(report, &format!("sequence {count} paths, Fortran"), &book, &clauses(&PATHS, 0, count, " "), count);
+    }
+    for count in [1_000, 2_000] {
+        row(report, &format!("sequence {count} shortest literals, Fortran"), &book, &clauses(&QUOTES, 0, count, ""), count);
+    }
     report.heading("what one check costs: a clause sequence a call, book checked in it, beside parse_sequence of a registry built before", "Rust ns");
     for (title, book) in &books {
         for count in [1, 10, 500, 1_000] {
@@ -146,9 +160,14 @@ struct Slots {
     rest: [u64; 1],
 }
 
+/// A text as the Rust is asked for it.
+fn for_rust(book: &[u8], text: &str) -> String {
+    if book[5] % 2 == 1 { without_backslashes(text) } else { text.to_string() }
+}
+
 /// The slots, once our call has answered as the oracle does.
 fn agreed(name: &str, shelf: &mut Shelf, book: &[u8], text: &str, count: usize) -> Slots {
-    let request = Request::Sequence { slots: count, book: book.to_vec(), text: text.as_bytes().to_vec() };
+    let request = Request::Sequence { slots: count, book: book.to_vec(), text: for_rust(book, text).into_bytes() };
     let expected = calls::answer(&request, shelf).expect("an oracle that agrees with itself");
     let mut lent = Slots { records: vec![ours::ClauseRecord::BEFORE; count], rest: [u64::MAX] };
     let answer = ours::sequence(book, text.as_bytes(), &mut lent.records, &mut lent.rest);
@@ -165,11 +184,12 @@ fn row(report: &Report, name: &str, book: &[u8], text: &str, count: usize) {
     let mut shelf = Shelf::default();
     let mut lent = agreed(name, &mut shelf, book, text, count);
     let registry = &shelf.book(book).expect("a valid book").clause_registry;
+    let asked = for_rust(book, text);
     report.row(
         name,
         text.len(),
         || ours::sequence(book, black_box(text.as_bytes()), &mut lent.records, &mut lent.rest) as usize,
-        || parsed(registry, black_box(text)),
+        || parsed(registry, black_box(&asked)),
     );
 }
 

@@ -48,7 +48,7 @@ impl Call {
     pub fn simplest(self) -> &'static str {
         match self {
             Self::Trim => "trim -",
-            Self::Split => "split comma 0 0 -",
+            Self::Split => "split c comma 0 0 -",
             Self::Join => "join c omp 0 1 -",
             Self::Back => "back 0 0 0 0",
             Self::Copy => "copy 0 -",
@@ -130,6 +130,12 @@ pub fn bytes_of(word: &str) -> Option<Vec<u8>> {
     let digits: Option<Vec<u32>> = word.chars().map(|digit| digit.to_digit(16)).collect();
     let digits = digits.filter(|digits| digits.len() % 2 == 0)?;
     Some(digits.chunks(2).map(|pair| (pair[0] * 16 + pair[1]) as u8).collect())
+}
+
+/// The numbers of slots as an answer has them, without the zeros behind the last.
+pub fn numbers(list: &str) -> Vec<usize> {
+    let filled = list.rsplit_once('+').map_or(list, |(filled, _)| filled);
+    filled.split(',').filter_map(|number| number.parse().ok()).collect()
 }
 
 /// Slots as an answer has them.

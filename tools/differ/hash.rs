@@ -60,25 +60,24 @@ impl Judgement {
     }
 
     /// The request that the Rust has to answer besides.
-    pub fn shorter(&self) -> Option<&str> {
+    pub fn asked(&self) -> Vec<&str> {
         match &self.ruling {
-            Ruling::Refused { .. } => None,
-            Ruling::Shorter { request, .. } => Some(request),
+            Ruling::Refused { .. } => vec![],
+            Ruling::Shorter { request, .. } => vec![request],
         }
     }
 
-    /// Whether the Rust's own answer is the refusal that this request lifts; any other, by rows 1 to 6, stands.
-    pub fn lifts(&self, own: &str) -> bool {
-        own.starts_with(&format!("refused 7 {} ", self.hash))
-    }
-
-    /// The answer due in the place of such a refusal, by the Rust's answer to the shorter line.
-    pub fn answer(&self, own: &str, shorter: Option<&str>) -> String {
-        match (&self.ruling, shorter) {
+    /// The answer due in the place of the refusal that this request lifts, by the Rust's answer to the shorter line; none if its own is another, by
+    /// rows 1 to 6.
+    pub fn answer(&self, own: &str, more: &[&str]) -> Option<String> {
+        if !own.starts_with(&format!("refused 7 {} ", self.hash)) {
+            return None;
+        }
+        Some(match (&self.ruling, more) {
             (Ruling::Refused { number, place }, _) => with_head(own, format!("refused {number} {place}")),
-            (Ruling::Shorter { taken, text, map, .. }, Some(shorter)) => moved(shorter, *taken, text, map),
+            (Ruling::Shorter { taken, text, map, .. }, [shorter]) => moved(shorter, *taken, text, map),
             _ => "no answer to the shorter line".to_string(),
-        }
+        })
     }
 }
 

@@ -6,6 +6,7 @@ mod due;
 mod generate;
 mod hash;
 mod laws;
+mod literal;
 mod random;
 mod report;
 mod run;
@@ -181,7 +182,7 @@ fn answer(options: &Options) -> ExitCode {
     let due = Due::of(&requests);
     let asked = [requests.clone(), due.more()].concat();
     for answer in due.answers(&oracle.answers(&asked, &options.scratch).lines) {
-        println!("{answer}");
+        println!("{}", answer.text);
     }
     ExitCode::SUCCESS
 }

@@ -1,7 +1,7 @@
 //! Compares answers, prints what differs, counts the rest.
 
 use crate::cases::{Call, Case};
-use crate::due::Due;
+use crate::due::{Answer, Due};
 use crate::run::{Answers, Program, ask_both};
 use std::collections::BTreeMap;
 use std::fs::File;
@@ -65,8 +65,8 @@ pub struct Comparison<'a> {
     batch_bytes: usize,
     kinds: BTreeMap<Kind, usize>,
     laws: BTreeMap<&'static str, Count>,
-    /// Lines that the Rust's own answer doesn't judge, and how many of them are read.
-    judged: Count,
+    /// What the Rust's own answer doesn't judge, by what judges it.
+    judged: BTreeMap<&'static str, Count>,
 }
 
 impl<'a> Comparison<'a> {
@@ -82,7 +82,7 @@ impl<'a> Comparison<'a> {
             batch_bytes: 0,
             kinds: BTreeMap::new(),
             laws: BTreeMap::new(),
-            judged: Count::default(),
+            judged: BTreeMap::new(),
         }
     }
 
@@ -114,12 +114,12 @@ impl<'a> Comparison<'a> {
             let (Some(answer), Some(found)) = (answers.get(index), probe.lines.get(index)) else {
                 break;
             };
-            *self.kinds.entry(Kind::of(answer)).or_default() += 1;
-            if due.is_judged(index, &oracle.lines[index]) {
-                self.judged.count(answer);
+            *self.kinds.entry(Kind::of(&answer.text)).or_default() += 1;
+            if let Some(rule) = answer.rule {
+                self.judged.entry(rule).or_default().count(&answer.text);
             }
-            if answer != found || answer == "oracle inconsistent" {
-                self.differs(&[&case.request], &[("due", answer), ("probe", found)]);
+            if answer.text != *found || answer.text == "oracle inconsistent" {
+                self.differs(&[&case.request], &[("due", &answer.text), ("probe", found)]);
             }
             // The probe's answers are these, or differ already.
             self.check_law(&batch, index, &answers);
@@ -139,11 +139,11 @@ impl<'a> Comparison<'a> {
         );
     }
 
-    fn check_law(&mut self, batch: &[Case], index: usize, answers: &[String]) {
+    fn check_law(&mut self, batch: &[Case], index: usize, answers: &[Answer]) {
         let Some(law) = &batch[index].law else {
             return;
         };
-        let (before, answer) = (&answers[index - 1], &answers[index]);
+        let (before, answer) = (&answers[index - 1].text, &answers[index].text);
         self.laws.entry(law.name()).or_default().count(before);
         if !law.holds(before, answer) {
             self.differs(
@@ -183,15 +183,15 @@ impl<'a> Comparison<'a> {
         for (law, count) in &self.laws {
             println!("  {law}: {} pairs, {} of them readings", count.all, count.given);
         }
-        let judged = std::mem::take(&mut self.judged);
-        if judged.all > 0 {
+        for (rule, count) in &self.judged {
             println!(
-                "  trivia behind the hash: {} of these judged by document 02 in place of the Rust, {} of them readings",
-                judged.all, judged.given
+                "  {rule}: {} of these judged by document 02 in place of the Rust, {} of them readings",
+                count.all, count.given
             );
         }
         self.kinds.clear();
         self.laws.clear();
+        self.judged.clear();
     }
 }
 

@@ -4,6 +4,9 @@ use crate::random::Random;
 
 pub type Tokens = [&'static [u8]];
 
+/// What literals are made of, and what they hide.
+pub const LITERAL_TOKENS: &Tokens = &[b"'", b"\"", b"\\", b"'\\'", b"''", b",", b"(", b")", b"a"];
+
 /// All words of 0, 1, 2, ... tokens while they fit into the limit, then an even choice of the next longer ones up to it.
 pub fn short_texts(tokens: &Tokens, limit: usize, random: &mut Random, mut each: impl FnMut(&mut Random, &[u8])) {
     let (mut length, mut all, mut left) = (0, 1, limit);
@@ -62,7 +65,7 @@ pub fn damaged(text: &[u8], tokens: &Tokens, random: &mut Random) -> Vec<u8> {
     text
 }
 
-const ATOMS: [&str; 26] = [
+const ATOMS: [&str; 28] = [
     "a",
     "b1",
     "x_y",
@@ -75,6 +78,8 @@ const ATOMS: [&str; 26] = [
     "\"s)\"",
     "'it''s'",
     "'\\''",
+    "'c:\\p\\'",
+    "\"\\\"",
     "/* , */",
     "a::b",
     "c ? d : e",

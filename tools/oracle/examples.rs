@@ -116,8 +116,7 @@ fn examples(text: &str, is_01: bool) -> Vec<Example> {
 fn byte_words(call: &str) -> &'static [usize] {
     match call {
         "trim" | "book" => &[1],
-        "split" => &[4],
-        "join" => &[5],
+        "split" | "join" => &[5],
         "copy" => &[2],
         "seq" => &[2, 3],
         "line" => &[6, 7],
@@ -148,7 +147,7 @@ fn hexadecimal(bytes: &[u8]) -> String {
 /// A refusal without lists gets those that it leaves: every slot zero.
 fn answer_of(answer: &str, words: &[String]) -> String {
     let slots: &[usize] = match words[0].as_str() {
-        "split" => &[3],
+        "split" => &[4],
         "join" => &[3, 4],
         "copy" | "seq" => &[1],
         "line" => &[3, 4, 5],

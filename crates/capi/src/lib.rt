@@ -41,11 +41,18 @@ pub extern "C" fn pelzurda_trim(text: &[u8], range: &mut [u64; 2]) -> u64
 
 // Split: the number of items, with the start and end of each at the front of the slots.
 #[no_mangle]
-pub extern "C" fn pelzurda_split(text: &[u8], colon: u32, angles: u32, items: &mut [u16]) -> u64
-    ensures { λ r. ⌜ r ≡ coded (splitCall (now (text .entry)) (separatorOf colon) (isSet angles) (length (now (items .entry))) .answer) ⌝ }
-    ensures { λ r. ⌜ now (items .exit) ≡ splitCall (now (text .entry)) (separatorOf colon) (isSet angles) (length (now (items .entry))) .items ⌝ }
+pub extern "C" fn pelzurda_split(
+    text: &[u8],
+    language: u32,
+    colon: u32,
+    angles: u32,
+    items: &mut [u16],
+) -> u64
+    ensures { λ r. ⌜ r ≡ coded (splitCall (now (text .entry)) (languageOf language) (separatorOf colon) (isSet angles) (length (now (items .entry))) .answer) ⌝ }
+    ensures { λ r. ⌜ now (items .exit) ≡ splitCall (now (text .entry)) (languageOf language) (separatorOf colon) (isSet angles) (length (now (items .entry))) .items ⌝ }
 {
-    match delimiter::split_top_level(text, separator_of(colon), angles != 0, items) {
+    let asked = language_of(language);
+    match delimiter::split_top_level(text, asked, separator_of(colon), angles != 0, items) {
         SplitAnswer::Items(count) => count as u64,
         SplitAnswer::Refused(refused) => code_of(refused),
     }

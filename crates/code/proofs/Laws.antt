@@ -18,7 +18,7 @@ use Rattle.ascii.proofs.Flags.{and-right}
 use Rattle.code.specs.declared.CommentStyle.{CommentStyle}
 use Rattle.code.specs.declared.Piece.the-variants.{Code, Hidden, OpenQuote, OpenComment}
 use Rattle.code.specs.declared.Unclosed.the-variants.{Nothing, Quote, Comment}
-use Rattle.code.specs.Code.{isCLike, isFortran, more, escapes, literal, blockEnd, quoted, commented, slashed, banged, piece, rest, placed, scanFrom, scanAt, onward}
+use Rattle.code.specs.Code.{isCLike, isFortran, hidesNext, more, literal, blockEnd, quoted, commented, slashed, banged, piece, rest, placed, scanFrom, scanAt, onward}
 
 pub more-more : (a b : ℕ) (o : Option ℕ) → more a (more b o) ≡ more (a + b) o
 more-more a b none = refl
@@ -68,30 +68,30 @@ module _ (style : CommentStyle) (q x : ℕ) (xs : List ℕ) where
   pass-one [] = refl
   pass-one (y ∷ ys) = refl
 
-  both : (escapes style x || (eqb x q && eqb (getD xs 0 0) q)) ≡ true → literal style q 0 (x ∷ xs) ≡ more 2 (literal style q 0 (drop 1 xs))
+  both : hidesNext style q x (getD xs 0 0) ≡ true → literal style q 0 (x ∷ xs) ≡ more 2 (literal style q 0 (drop 1 xs))
   unfolding literal
   both e = rw (e) (ap (more 1) (pass-one xs) ∙ more-more 1 1 (literal style q 0 (drop 1 xs)))
 
-  closed : (escapes style x || (eqb x q && eqb (getD xs 0 0) q)) ≡ false → eqb x q ≡ true → literal style q 0 (x ∷ xs) ≡ some 1
+  closed : hidesNext style q x (getD xs 0 0) ≡ false → eqb x q ≡ true → literal style q 0 (x ∷ xs) ≡ some 1
   unfolding literal
   closed e f = rw (e, f) refl
 
-  plain : (escapes style x || (eqb x q && eqb (getD xs 0 0) q)) ≡ false → eqb x q ≡ false → literal style q 0 (x ∷ xs) ≡ more 1 (literal style q 0 xs)
+  plain : hidesNext style q x (getD xs 0 0) ≡ false → eqb x q ≡ false → literal style q 0 (x ∷ xs) ≡ more 1 (literal style q 0 xs)
   unfolding literal
   plain e f = rw (e, f) refl
 
 module _ (style : CommentStyle) (q : ℕ) (s : List ℕ) (i : ℕ) where
-  abbrev hidesNext : Bool
-  hidesNext = escapes style (getD s i 0) || (eqb (getD s i 0) q && eqb (getD s (i + 1) 0) q)
+  abbrev hidden : Bool
+  hidden = hidesNext style q (getD s i 0) (getD s (i + 1) 0)
 
-  pub literal-both : i < length s → hidesNext ≡ true → more i (literal style q 0 (drop i s)) ≡ more (i + 2) (literal style q 0 (drop (i + 2) s))
+  pub literal-both : i < length s → hidden ≡ true → more i (literal style q 0 (drop i s)) ≡ more (i + 2) (literal style q 0 (drop (i + 2) s))
   literal-both h e =
       rw (drop-at s i h, both style q (getD s i 0) (drop (i + 1) s) (rw (head-at s (i + 1)) e), drop-two s i) (more-more i 2 (literal style q 0 (drop (i + 2) s)))
 
-  pub literal-closed : i < length s → hidesNext ≡ false → eqb (getD s i 0) q ≡ true → more i (literal style q 0 (drop i s)) ≡ some (i + 1)
+  pub literal-closed : i < length s → hidden ≡ false → eqb (getD s i 0) q ≡ true → more i (literal style q 0 (drop i s)) ≡ some (i + 1)
   literal-closed h e f = rw (drop-at s i h, closed style q (getD s i 0) (drop (i + 1) s) (rw (head-at s (i + 1)) e) f) refl
 
-  pub literal-plain : i < length s → hidesNext ≡ false → eqb (getD s i 0) q ≡ false
+  pub literal-plain : i < length s → hidden ≡ false → eqb (getD s i 0) q ≡ false
       → more i (literal style q 0 (drop i s)) ≡ more (i + 1) (literal style q 0 (drop (i + 1) s))
   literal-plain h e f =
       rw (drop-at s i h, plain style q (getD s i 0) (drop (i + 1) s) (rw (head-at s (i + 1)) e) f) (more-more i 1 (literal style q 0 (drop (i + 1) s)))

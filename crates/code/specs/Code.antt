@@ -8,7 +8,7 @@ use lib.Dec.{eqb, ltb}
 use Rattle.ascii.specs.Ascii.{isEol}
 use Rattle.ascii.specs.Text.{starts, upTo}
 use Rattle.code.specs.declared.CommentStyle.{CommentStyle}
-use Rattle.code.specs.declared.CommentStyle.the-variants.{Block, CLike, Fortran}
+use Rattle.code.specs.declared.CommentStyle.the-variants.{Block, CLike, Fortran, FortranBlock}
 use Rattle.code.specs.declared.End.{End}
 use Rattle.code.specs.declared.End.the-variants.{Before, Never}
 use Rattle.code.specs.declared.Piece.{Piece}
@@ -20,11 +20,21 @@ abbrev pub isCLike : CommentStyle → Bool
 isCLike Block = false
 isCLike CLike = true
 isCLike Fortran = false
+isCLike FortranBlock = false
 
 abbrev pub isFortran : CommentStyle → Bool
 isFortran Block = false
 isFortran CLike = false
 isFortran Fortran = true
+isFortran FortranBlock = false
+
+-- a backslash of a literal hides the byte after it. P6, "Fortran has no such escape in its standard, so in Fortran the quote scan now takes a backslash
+-- as an ordinary byte"
+abbrev pub hasEscapes : CommentStyle → Bool
+hasEscapes Block = true
+hasEscapes CLike = true
+hasEscapes Fortran = false
+hasEscapes FortranBlock = false
 
 -- n bytes more, if there is an end
 abbrev pub more : ℕ → Option ℕ → Option ℕ
@@ -36,18 +46,18 @@ abbrev pub endOf : End → Option ℕ
 endOf (Before k) = some k
 endOf Never = none
 
--- in a literal this byte hides the one after it: a backslash, in every style
-abbrev pub escapes : CommentStyle → ℕ → Bool
-escapes style x = eqb x 92
+-- the quote rule: byte x of a literal in q keeps the one after it inside, if it is a backslash and the style has escapes, or the first of a doubled quote
+abbrev pub hidesNext : CommentStyle → ℕ → ℕ → ℕ → Bool
+hidesNext style q x next = (hasEscapes style && eqb x 92) || (eqb x q && eqb next q)
 
 -- `code_chars`, quotes: the bytes of a literal after its opening quote q, the closing one included, once k bytes are passed over;
--- none if it has no end. A backslash hides the byte after it, and a doubled quote stays inside.
+-- none if it has no end
 unfoldable pub literal : CommentStyle → ℕ → ℕ → List ℕ → Option ℕ
 literal style q zero [] = none
 literal style q (suc k) [] = none
 literal style q (suc k) (x ∷ xs) = more 1 (literal style q k xs)
 literal style q zero (x ∷ xs) =
-    cond (escapes style x || (eqb x q && starts q xs)) (more 1 (literal style q 1 xs))
+    cond (hidesNext style q x (getD xs 0 0)) (more 1 (literal style q 1 xs))
     (cond (eqb x q) (some 1) (more 1 (literal style q zero xs)))
 
 -- `code_chars`, block comments: the bytes of one after its opening, the closing included; none if it has no end

@@ -9,13 +9,26 @@ ghost use Prim.Native.Nat.{_+_, _<_, _≤_};
 ghost use lib.ListN.{length, drop, getD};
 ghost use Rattle.ascii.specs.Ascii.{isEol};
 ghost use Rattle.ascii.specs.Text.{upTo};
-ghost use Rattle.code.specs.Code.{isCLike, isFortran, more, endOf, escapes as hides, literal, blockEnd, quoted, commented, slashed, banged, piece, isPlain, scanAt, onward, Fits, Ends};
+ghost use Rattle.code.specs.Code.{isCLike, isFortran, hasEscapes, hidesNext, more, endOf, literal, blockEnd, quoted, commented, slashed, banged, piece, isPlain, scanAt, onward, Fits, Ends};
 
-// Whether a byte of a literal hides the one after it.
-fn escapes(style: CommentStyle, b: u8) -> bool
-    ensures { λ r. ⌜ r ≡ hides style b ⌝ }
+// Whether a backslash of a literal hides the byte after it.
+fn has_escapes(style: CommentStyle) -> bool
+    ensures { λ r. ⌜ r ≡ hasEscapes style ⌝ }
 {
-    b == 92
+    match style {
+        CommentStyle::Block => true,
+        CommentStyle::CLike => true,
+        CommentStyle::Fortran => false,
+        CommentStyle::FortranBlock => false,
+    }
+}
+
+// Whether a byte of a literal in q keeps the one after it inside.
+fn hides_next(style: CommentStyle, q: u8, b: u8, next: u8) -> bool
+    ensures { λ r. ⌜ r ≡ hidesNext style q b next ⌝ }
+{
+    let escapes = has_escapes(style);
+    (escapes & (b == 92)) | ((b == q) & (next == q))
 }
 
 // The end of a literal in q, from a place inside it.
@@ -27,13 +40,12 @@ pub fn quote_end(text: &[u8], from: usize, q: u8, style: CommentStyle) -> End
     let mut i = from;
     while i < text.len() {
         let b = text[i];
-        if escapes(style, b) {
+        if (b != q) & (b != 92) {
+            i += 1;
+        } else if hides_next(style, q, b, ascii::byte_at(text, i + 1)) {
             i += 2;
         } else if b == q {
-            if ascii::byte_at(text, i + 1) != q {
-                return End::Before(i + 1);
-            }
-            i += 2;
+            return End::Before(i + 1);
         } else {
             i += 1;
         }
@@ -102,6 +114,7 @@ fn is_c_like(style: CommentStyle) -> bool
         CommentStyle::Block => false,
         CommentStyle::CLike => true,
         CommentStyle::Fortran => false,
+        CommentStyle::FortranBlock => false,
     }
 }
 
@@ -112,6 +125,7 @@ fn is_fortran(style: CommentStyle) -> bool
         CommentStyle::Block => false,
         CommentStyle::CLike => false,
         CommentStyle::Fortran => true,
+        CommentStyle::FortranBlock => false,
     }
 }
 

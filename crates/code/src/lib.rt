@@ -4,14 +4,16 @@ pub mod code;
 pub mod matching;
 pub mod walk;
 
-// Which comments are invisible besides block comments.
+// Which comments are invisible besides block comments, and whose literals: in those of C a backslash hides the byte after it.
 pub enum CommentStyle {
-    // none
+    // none; literals of C
     Block,
-    // `//` to the end of line
+    // `//` to the end of line; literals of C
     CLike,
-    // `!` to the end of line, unless `$` follows
+    // `!` to the end of line, unless `$` follows; literals of Fortran
     Fortran,
+    // none; literals of Fortran
+    FortranBlock,
 }
 
 // Where a literal or comment ends: its last byte stands before a place, or it has no end.

@@ -1,2 +1,3 @@
 pub mod SplitLaws
 pub mod CallLaws
+pub mod Languages

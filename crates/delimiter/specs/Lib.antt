@@ -1,3 +1,4 @@
 pub mod Split
 pub mod Cutting
+pub mod Laws
 pub mod Examples

@@ -1,4 +1,5 @@
-// The words LANG PREFIX TEXTSLOTS MAPSLOTS, with which two requests begin.
+// The words LANG PREFIX TEXTSLOTS MAPSLOTS, with which two requests begin; a third has LANG alone.
+use crate::words::Number;
 use crate::words::choice_at;
 use crate::words::nth;
 use crate::words::slots_at;
@@ -17,12 +18,7 @@ pub struct Form {
 
 impl Form {
     pub fn language(self) -> Language {
-        let language = self.language;
-        match language {
-            0 => Language::C,
-            1 => Language::FortranFree,
-            _ => Language::FortranFixed,
-        }
+        language_of(self.language)
     }
 
     pub fn prefix(self) -> Prefix {
@@ -34,10 +30,23 @@ impl Form {
     }
 }
 
+// The number of the language, which is a request's first word behind its name.
+pub fn language_at(line: &[u8]) -> Number {
+    choice_at(line, nth(line, 1), b"c free fixed")
+}
+
+pub fn language_of(number: usize) -> Language {
+    match number {
+        0 => Language::C,
+        1 => Language::FortranFree,
+        _ => Language::FortranFixed,
+    }
+}
+
 pub fn form_of(line: &[u8], most_text: usize, most_map: usize) -> Form
     ensures { λ r. ⌜ (r .text ≤ «most_text») × (r .map ≤ «most_map») ⌝ }
 {
-    let language = choice_at(line, nth(line, 1), b"c free fixed");
+    let language = language_at(line);
     let prefix = choice_at(line, nth(line, 2), b"omp acc");
     let text = slots_at(line, nth(line, 3), most_text);
     let map = slots_at(line, nth(line, 4), most_map);

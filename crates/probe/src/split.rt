@@ -1,4 +1,6 @@
-// The request `split SEP ANGLES SLOTS TEXT`.
+// The request `split LANG SEP ANGLES SLOTS TEXT`.
+use crate::form::language_at;
+use crate::form::language_of;
 use crate::lent::fill_numbers;
 use crate::print::Out;
 use crate::words::choice_at;
@@ -10,9 +12,10 @@ use delimiter::Separator;
 use delimiter::SplitAnswer;
 ghost use Prim.Native.Nat.{_≤_};
 
-// separator: 0 for the comma, 1 for the colon.
+// language: 0 for C, 1 for free form, 2 for fixed form; separator: 0 for the comma, 1 for the colon.
 pub struct SplitRequest {
     pub good: bool,
+    pub language: usize,
     pub separator: usize,
     pub angles: bool,
     pub slots: usize,
@@ -21,11 +24,13 @@ pub struct SplitRequest {
 fn request(line: &[u8], most: usize) -> SplitRequest
     ensures { λ r. ⌜ r .slots ≤ most ⌝ }
 {
-    let separator = choice_at(line, nth(line, 1), b"comma colon");
-    let angles = choice_at(line, nth(line, 2), b"0 1");
-    let slots = slots_at(line, nth(line, 3), most);
+    let language = language_at(line);
+    let separator = choice_at(line, nth(line, 2), b"comma colon");
+    let angles = choice_at(line, nth(line, 3), b"0 1");
+    let slots = slots_at(line, nth(line, 4), most);
     SplitRequest {
-        good: separator.good & angles.good & slots.good,
+        good: language.good & separator.good & angles.good & slots.good,
+        language: language.value,
         separator: separator.value,
         angles: angles.value == 1,
         slots: slots.value,
@@ -33,7 +38,7 @@ fn request(line: &[u8], most: usize) -> SplitRequest
 }
 
 pub fn answer(line: &[u8], text: &mut [u8], items: &mut [u16], buffer: &mut [u8], out: Out) -> Out {
-    let word = nth(line, 4);
+    let word = nth(line, 5);
     let size = hex_at(line, word, text);
     let asked = request(line, items.len());
     let n = size.value;
@@ -52,8 +57,9 @@ fn answer_split(
     out: Out,
 ) -> Out {
     fill_numbers(items);
+    let language = language_of(asked.language);
     let separator = separator_of(asked.separator);
-    let answer = delimiter::split_top_level(text, separator, asked.angles, items);
+    let answer = delimiter::split_top_level(text, language, separator, asked.angles, items);
     print_split(answer, buffer, out).and_numbers(buffer, items)
 }
 

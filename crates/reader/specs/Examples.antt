@@ -1,10 +1,11 @@
 -- The examples of document 01, evaluated on the definitions that the public calls meet: the marked ones in one statement, the table's and the
--- unmarked ones in another; and those of document 02's request P1.
+-- unmarked ones in another; and those of document 02's requests P1 and P6.
 use Prim.Native.Nat.{ℕ, suc}
-use mathlib.Core.Bool.{true, false}
+use mathlib.Core.Bool.{Bool, true, false}
 use mathlib.Core.Path.{_≡_, refl}
 use mathlib.Core.List.{List, [], _∷_, _++_}
 use lib.ListN.{length, replicate}
+use Prim.Native.String.{String}
 use Rattle.ascii.specs.Text.{bytes, leading, upTo, trimmed, sameBy, begins, firstHigh}
 use Rattle.refusal.specs.Answer.{Answer, given, refused}
 use Rattle.delimiter.specs.declared.Separator.the-variants.{Comma, Colon}
@@ -13,7 +14,7 @@ use Rattle.code.specs.Bracket.{taken}
 use Rattle.code.specs.Matching.{matchFrom, matching}
 use Rattle.delimiter.specs.Split.{nextSolid, bracketed, turned, splitFrom, split, flat, SplitCall, splitCall}
 use Rattle.lexer.specs.declared.Language.{Language}
-use Rattle.lexer.specs.declared.Language.the-variants.{C, FortranFree}
+use Rattle.lexer.specs.declared.Language.the-variants.{C, FortranFree, FortranFixed}
 use Rattle.lexer.specs.declared.Prefix.the-variants.{Omp}
 use Rattle.lexer.specs.Continuation.{breakC, breakF, sentinel, sentinelEnded, sentinelAny, eol, commentF, marker, lead}
 use Rattle.lexer.specs.Trivia.{triviaC, triviaF, skipFrom, skip}
@@ -24,6 +25,7 @@ use Rattle.bookform.specs.Format.{badFrom}
 use Rattle.rulebook.specs.Book.{entriesFrom, placeAfter, clausesOf, headerOf, bookOf}
 use Rattle.rulebook.specs.Check.{isNamed, repeatFrom, bookFault, bookCall}
 use Rattle.rulebook.specs.Lookup.{entryFrom, ruleAt}
+use Rattle.clause.specs.declared.ClauseRecord.{ClauseRecord}
 use Rattle.clause.specs.declared.SequenceEnd.{SequenceEnd}
 use Rattle.clause.specs.Clause.{clauseAt, zeroRecord}
 use Rattle.clause.specs.Sequence.{sequenceFrom, sequenceAt}
@@ -42,10 +44,10 @@ joined n text map = record { answer = given n; text = text; map = map }
 
 -- a split by commas or colons, angles off, with eight numbers lent
 abbrev commas : List ℕ → SplitCall
-commas text = splitCall text Comma false 8
+commas text = splitCall text C Comma false 8
 
 abbrev colons : List ℕ → SplitCall
-colons text = splitCall text Colon false 8
+colons text = splitCall text C Colon false 8
 
 abbrev items : ℕ → List ℕ → SplitCall
 items n numbers = record { answer = given n; items = numbers }
@@ -167,3 +169,33 @@ pub behindHash :
     })
 unfolding leading upTo sameBy begins firstHigh blockEnd breakC triviaC skipFrom skip checkLine faultFrom fault keptFrom joinedText joinedMap badFrom entriesFrom placeAfter clausesOf headerOf bookOf isNamed repeatFrom bookFault entryFrom ruleAt clauseAt sequenceFrom sequenceAt compact entriesWith entryOf headFrom isHead mayGrow nameFrom nameAt openingC parsed lineAnswer lineWithin
 behindHash = (refl, refl, refl, refl, refl, refl, refl, refl, refl, refl, refl, refl, refl, refl)
+
+-- a book with these flags, the directive `p` and the clause `i` Parenthesized, default 3
+abbrev withI : ℕ → List ℕ
+withI flags = bytes "DRB" ++ (0 ∷ 1 ∷ flags ∷ 3 ∷ 1 ∷ 1 ∷ 1 ∷ bytes "p") ++ (1 ∷ 1 ∷ bytes "i")
+
+abbrev clauses : ℕ → String → Answer SequenceEnd
+clauses flags text = sequenceCall (withI flags) (bytes text) 2 .answer
+
+-- the clause `i` with this content
+abbrev clauseI : ℕ → ℕ → ℕ → Bool → ClauseRecord
+clauseI start from to comma =
+    record { «name_start» = start; «name_end» = suc start; entry = 0; parenthesized = true; «content_start» = from; «content_end» = to; preceded = comma; trailing = false }
+
+-- 02, P6: literals of Fortran by bit 0 of the book, those of a split by its language; of C they are what they were
+pub fortranLiterals :
+    (sequenceCall (withI 1) (bytes "i('c:\\'), i(x)") 2
+    ≡ record { answer = given (record { count = 2; rest = 14 }); records = clauseI 0 2 7 false ∷ clauseI 10 12 13 true ∷ [] })
+    × (clauses 0 "i('c:\\'), i(x)" ≡ refused 12 1)
+    × (clauses 1 "i('\\')" ≡ given (record { count = 1; rest = 6 }))
+    × (clauses 0 "i('\\')" ≡ refused 12 1)
+    × (clauses 1 "i('\\'')" ≡ refused 12 1)
+    × (clauses 0 "i('\\'')" ≡ given (record { count = 1; rest = 7 }))
+    × (clauses 1 "i('it''s')" ≡ given (record { count = 1; rest = 10 }))
+    × (lineCall FortranFree Omp (withI 1) (bytes "!$omp p i('\\')") 64 64 1 .answer ≡ given (record { entry = 0; «name_start» = 6; «name_end» = 7; count = 1; rest = 14 }))
+    × (lineCall FortranFixed Omp (withI 1) (bytes "c$omp p i('\\'')") 64 64 1 .answer ≡ refused 12 9)
+    × (line (withI 0) 1 (bytes "#pragma omp p i('\\')") .answer ≡ refused 12 15)
+    × (splitCall (bytes "'\\',b") FortranFree Comma false 8 ≡ items 2 ((0 ∷ 3 ∷ 4 ∷ 5 ∷ []) ++ replicate 4 0))
+    × (commas (bytes "'\\',b") ≡ noItems 16 0)
+unfolding leading upTo trimmed sameBy begins firstHigh literal blockEnd piece scanFrom matchFrom matching taken nextSolid bracketed turned splitFrom split flat splitCall breakC breakF sentinel sentinelEnded sentinelAny eol commentF marker lead triviaC triviaF skipFrom skip codeLength endsIn continuedF checkLine faultFrom fault keptFrom joinedText joinedMap joinAnswer joinCall spanAnswer badFrom entriesFrom placeAfter clausesOf headerOf bookOf isNamed repeatFrom bookFault bookCall entryFrom ruleAt clauseAt sequenceFrom sequenceAt sequenceCall compact entriesWith entryOf headFrom isHead mayGrow nameFrom nameAt openingC openingF parsed lineAnswer lineWithin
+fortranLiterals = (refl, refl, refl, refl, refl, refl, refl, refl, refl, refl, refl, refl)

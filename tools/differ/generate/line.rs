@@ -7,7 +7,7 @@ use crate::books::Book;
 use crate::cases::{Sink, hexadecimal};
 use crate::laws::{Law, broken};
 use crate::random::Random;
-use crate::texts::{Tokens, damaged, mixed_case, short_texts};
+use crate::texts::{LITERAL_TOKENS, Tokens, damaged, mixed_case, short_texts};
 
 const C_OPENINGS: &Tokens = &[
     b"#pragma", b"#", b"pragma", b"omp", b"acc", b" ", b"/*", b"*/", b"//", b"p", b"a", b"\\\n", b"\n", b"\x0b", b"\t",
@@ -24,7 +24,7 @@ const FORTRAN_OPENINGS: &Tokens = &[
 
 const FORTRAN_TOKENS: &Tokens = &[
     b"p", b"P", b"a", b"i", b"f", b"u", b" ", b",", b"(", b")", b"!", b"'", b"&\n", b"&", b"!$omp", b"!$acc", b"\n",
-    b"\x0b", b"/*", b"c$omp",
+    b"\x0b", b"/*", b"c$omp", b"\\", b"\"",
 ];
 
 /// Between words, without line ends of their own.
@@ -302,6 +302,14 @@ pub fn short(limit: usize, sink: &mut Sink, random: &mut Random) {
         short_texts(FORTRAN_TOKENS, quarter * 3 / 8, random, |random, text| {
             let line = [b"!$omp p", text].concat();
             let sizes = Sizes::for_line(line.len(), random.below(4));
+            sink.give(ask(random.pick(&["free", "fixed"]), "omp", sizes, &fortran, &line));
+        });
+        short_texts(LITERAL_TOKENS, quarter / 8, random, |random, text| {
+            let sizes = Sizes::for_line(text.len() + 30, random.below(4));
+            let line = [b"#pragma omp p i(", text].concat();
+            sink.give(ask("c", "omp", sizes, &c, &line));
+            let end = random.pick(&[&b")"[..], b"&\n)", b"')"]);
+            let line = [&b"!$omp p i("[..], text, end].concat();
             sink.give(ask(random.pick(&["free", "fixed"]), "omp", sizes, &fortran, &line));
         });
     }

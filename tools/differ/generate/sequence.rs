@@ -4,7 +4,7 @@ use crate::books::Book;
 use crate::cases::{Sink, hexadecimal};
 use crate::laws::Law;
 use crate::random::Random;
-use crate::texts::{Tokens, damaged, list, mixed_case, random_text, short_texts};
+use crate::texts::{LITERAL_TOKENS, Tokens, damaged, list, mixed_case, random_text, short_texts};
 
 pub const TOKENS: &Tokens = &[
     b"a", b"i", b"f", b"u", b"z", b"A", b" ", b",", b"(", b")", b"[", b"]", b"/*", b"*/", b"//", b"\n", b"'", b"\\\n",
@@ -73,6 +73,13 @@ pub fn boundaries(sink: &mut Sink) {
             sink.give(ask(1, &book, format!("i({content})").as_bytes()));
             sink.give(ask(1, &book, format!("i({content}]").as_bytes()));
         }
+        for length in [16_383, 16_384, 16_385] {
+            let inside = "\\".repeat(length - 5);
+            sink.give(ask(1, &book, format!("i('{inside}')").as_bytes()));
+            sink.give(ask(1, &book, format!("i(\"{inside}')").as_bytes()));
+            let text = "i('\\')".repeat(length / 6) + &" ".repeat(length % 6);
+            sink.give(ask(512, &book, text.as_bytes()));
+        }
         for clauses in [511, 512, 513] {
             let text = vec!["a"; clauses].join(",");
             for slots in [clauses - 1, clauses, 512] {
@@ -106,9 +113,10 @@ fn every_name(book: &Book, sink: &mut Sink) {
 pub fn short(limit: usize, sink: &mut Sink, random: &mut Random) {
     let books = small_books();
     for book in &books {
-        for tokens in [TOKENS, MATCH_TOKENS] {
-            short_texts(tokens, limit / books.len() / 2, random, |random, text| {
-                sink.give(ask(random.pick(&[0, 1, 2, 3, 4]), book, text));
+        for (before, tokens) in [("", TOKENS), ("", MATCH_TOKENS), ("i(", LITERAL_TOKENS)] {
+            short_texts(tokens, limit / books.len() / 3, random, |random, text| {
+                let text = [before.as_bytes(), text].concat();
+                sink.give(ask(random.pick(&[0, 1, 2, 3, 4]), book, &text));
             });
         }
     }

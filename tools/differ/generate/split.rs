@@ -2,7 +2,7 @@
 
 use crate::cases::{Sink, hexadecimal};
 use crate::random::Random;
-use crate::texts::{Tokens, damaged, list, random_text, short_texts};
+use crate::texts::{LITERAL_TOKENS, Tokens, damaged, list, random_text, short_texts};
 
 const TOKENS: &Tokens = &[
     b",", b":", b"?", b"(", b")", b"[", b"]", b"{", b"}", b"<", b">", b"=", b" ", b"a", b"'", b"\"", b"\\", b"/", b"*",
@@ -14,21 +14,58 @@ const ANGLE_TOKENS: &Tokens = &[b"a", b"<", b">", b"=", b",", b"(", b")", b"''"]
 const COLON_TOKENS: &Tokens = &[b"a", b":", b"?", b" ", b"(", b")", b"/**/"];
 const QUOTE_TOKENS: &Tokens = &[b"'", b"\"", b"\\", b"/", b"*", b"a", b","];
 
-const WAYS: [(&str, usize); 4] = [("comma", 0), ("comma", 1), ("colon", 0), ("colon", 1)];
+/// Language, separator, angles.
+type Way = (&'static str, &'static str, usize);
 
-fn ask(way: (&str, usize), slots: usize, text: &[u8]) -> String {
-    format!("split {} {} {slots} {}", way.0, way.1, hexadecimal(text))
+const WAYS: [Way; 12] = [
+    ("c", "comma", 0),
+    ("c", "comma", 1),
+    ("c", "colon", 0),
+    ("c", "colon", 1),
+    ("free", "comma", 0),
+    ("free", "comma", 1),
+    ("free", "colon", 0),
+    ("free", "colon", 1),
+    ("fixed", "comma", 0),
+    ("fixed", "comma", 1),
+    ("fixed", "colon", 0),
+    ("fixed", "colon", 1),
+];
+
+fn ask(way: Way, slots: usize, text: &[u8]) -> String {
+    format!("split {} {} {} {slots} {}", way.0, way.1, way.2, hexadecimal(text))
 }
 
 pub fn boundaries(sink: &mut Sink) {
     for way in WAYS {
-        depths(way, sink);
-        lengths(way, sink);
+        if way.0 != "fixed" {
+            depths(way, sink);
+            lengths(way, sink);
+        }
+        if way.1 == "comma" && way.2 == 0 {
+            literals(way, sink);
+        }
+    }
+}
+
+/// Literals as long as a text can be, and as many; with a backslash before the closing quote, and with two.
+fn literals(way: Way, sink: &mut Sink) {
+    for length in [16_383, 16_384, 16_385] {
+        let inside = "\\".repeat(length - 2);
+        for text in [
+            format!("'{inside}'"),
+            format!("'{}'", inside.replace('\\', "a")),
+            format!("'{}\\'", "'".repeat(length - 3)),
+            "'\\',".repeat(length / 4) + &"a".repeat(length % 4),
+            "'\\\\',".repeat(length / 5) + &"a".repeat(length % 5),
+        ] {
+            sink.give(ask(way, 9_000, text.as_bytes()));
+        }
     }
 }
 
 /// 254 to 258 brackets open at once, of each kind and mixed.
-fn depths(way: (&str, usize), sink: &mut Sink) {
+fn depths(way: Way, sink: &mut Sink) {
     for count in 254..=258 {
         for (open, close) in [("(", ")"), ("[", "]"), ("{", "}"), ("a<", ">"), ("([{", "}])")] {
             let count = count / close.len();
@@ -46,7 +83,7 @@ fn depths(way: (&str, usize), sink: &mut Sink) {
     }
 }
 
-fn lengths(way: (&str, usize), sink: &mut Sink) {
+fn lengths(way: Way, sink: &mut Sink) {
     for length in [16_383, 16_384, 16_385] {
         sink.give(ask(way, 2, &vec![b'a'; length]));
         sink.give(ask(way, 2, &vec![b'('; length]));
@@ -55,7 +92,7 @@ fn lengths(way: (&str, usize), sink: &mut Sink) {
         sink.give(ask(way, 2, &text));
         text[length - 1] = b'\'';
         sink.give(ask(way, 2, &text));
-        let separator = if way.0 == "comma" { b',' } else { b':' };
+        let separator = if way.1 == "comma" { b',' } else { b':' };
         for at in (1..length).step_by(2) {
             text[at] = separator;
         }
@@ -68,8 +105,8 @@ fn lengths(way: (&str, usize), sink: &mut Sink) {
 }
 
 pub fn short(limit: usize, sink: &mut Sink, random: &mut Random) {
-    for tokens in [TOKENS, ANGLE_TOKENS, COLON_TOKENS, QUOTE_TOKENS] {
-        short_texts(tokens, limit / 16, random, |random, text| {
+    for tokens in [TOKENS, ANGLE_TOKENS, COLON_TOKENS, QUOTE_TOKENS, LITERAL_TOKENS] {
+        short_texts(tokens, limit / 5 / WAYS.len(), random, |random, text| {
             for way in WAYS {
                 sink.give(ask(way, random.pick(&[0, 1, 2, 3, 4, 6, 9]), text));
             }
@@ -79,7 +116,7 @@ pub fn short(limit: usize, sink: &mut Sink, random: &mut Random) {
 
 pub fn random(sink: &mut Sink, random: &mut Random) {
     let way = random.pick(&WAYS);
-    let separator = if way.0 == "comma" { "," } else { ":" };
+    let separator = if way.1 == "comma" { "," } else { ":" };
     let mut text = match random.below(4) {
         0 => random_text(TOKENS, 30, random),
         _ => {

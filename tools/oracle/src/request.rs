@@ -11,6 +11,7 @@ pub enum Request {
     Trim {
         text: Vec<u8>,
     },
+    /// The published split knows no language: one is named, and no answer goes by it.
     Split {
         separator: char,
         angles: bool,
@@ -57,8 +58,8 @@ impl Request {
         let words: Vec<&[u8]> = line.split(|byte| *byte == b' ').collect();
         Some(match words.as_slice() {
             [b"trim", text] => Self::Trim { text: bytes(text)? },
-            [b"split", separator, angles, slots, text] => Self::Split {
-                separator: separator_of(separator)?,
+            [b"split", language, separator, angles, slots, text] => Self::Split {
+                separator: language_of(language).and(separator_of(separator))?,
                 angles: number(angles, 1)? == 1,
                 slots: number(slots, MOST_SLOTS)?,
                 text: bytes(text)?,

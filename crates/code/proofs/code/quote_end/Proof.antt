@@ -1,12 +1,15 @@
 -- `code::quote_end` meets its contract: a turn passes over one byte, or two where the second is hidden, and the end that is left to find
 -- stays the same. Assumes nothing.
 use mathlib.Core.Path.{_≡_, refl, sym, _∙_}
+use mathlib.Core.Bool.{false, not, and-false}
 use Prim.Native.Nat.{_+_, _-_, _≤_}
 use native.Mathlib.Omega.{arith}
 use borrow.Author.Needs.{needs}
-use borrow.Author.Tests.{eq-eqb, ne-eqb}
-use lib.ListN.{length, drop}
-use Rattle.code.specs.Code.{more, literal}
+use borrow.Author.Tests.{eq-eqb, ne-eqb, not-true}
+use lib.Dec.{eqb}
+use lib.ListN.{length, drop, getD}
+use Rattle.ascii.proofs.Flags.{and-left, and-right}
+use Rattle.code.specs.Code.{hasEscapes, more, literal}
 use Rattle.code.proofs.Laws.{literal-both, literal-closed, literal-plain, literal-end}
 use Rattle.code.proofs.code.quote_end.Statement.{statement}
 use Rattle.code.proofs.code.quote_end.Tie as tie
@@ -20,42 +23,36 @@ abbrev μ-loop : tie.MeasureT-loop
 
 loop-again : tie.Need-loop-again Inv-loop μ-loop
 loop-again c =
-    let d : tie.After-escapes Inv-loop μ-loop = c .before in
-    let l : tie.In-loop Inv-loop μ-loop = d .before .before in
+    let l : tie.In-loop Inv-loop μ-loop = c .before .before in
     let a = l .before .before .before .args in
-    let n = sym (d .escapes .ensures) ∙ c .if1 .taken in
-    (omega arith, omega arith, sym (literal-both (a .style) (a .q) (a .text .now) _ (l .loop-test .taken) (rw n refl)) ∙ l .before .loop .inv .2)
-
-returns : tie.Need-returns Inv-loop μ-loop
-returns c =
-    let b : tie.After-byte-at Inv-loop μ-loop = c .before in
-    let d : tie.After-escapes Inv-loop μ-loop = b .before .before .before in
-    let l : tie.In-loop Inv-loop μ-loop = d .before .before in
-    let a = l .before .before .before .args in
-    let n = sym (d .escapes .ensures) ∙ b .before .before .if1 .left in
-    let f = eq-eqb _ _ (b .before .if2 .taken) in
-    let g = ne-eqb _ _ (rw (b .byte-at .ensures) at (c .if3 .taken)) in
-    (sym (literal-closed (a .style) (a .q) (a .text .now) _ (l .loop-test .taken) (rw (n, f, g) refl) f) ∙ l .before .loop .inv .2, omega arith)
+    let b = getD (a .text .now) (l .before .loop .i) 0 in
+    let f : eqb b (a .q) ≡ false = not-true (eqb b (a .q)) (and-left (not (eqb b (a .q))) (not (eqb b 92)) (c .if1 .taken)) in
+    let g : eqb b 92 ≡ false = not-true (eqb b 92) (and-right (not (eqb b (a .q))) (not (eqb b 92)) (c .if1 .taken)) in
+    (omega arith, omega arith, sym (literal-plain (a .style) (a .q) (a .text .now) _ (l .loop-test .taken) (rw (f, g, and-false (hasEscapes (a .style))) refl) f) ∙ l .before .loop .inv .2)
 
 loop-again-2 : tie.Need-loop-again-2 Inv-loop μ-loop
 loop-again-2 c =
-    let b : tie.After-byte-at Inv-loop μ-loop = c .before in
-    let d : tie.After-escapes Inv-loop μ-loop = b .before .before .before in
-    let l : tie.In-loop Inv-loop μ-loop = d .before .before in
+    let d : tie.After-hides-next Inv-loop μ-loop = c .before in
+    let l : tie.In-loop Inv-loop μ-loop = d .before .before .before .before in
     let a = l .before .before .before .args in
-    let n = sym (d .escapes .ensures) ∙ b .before .before .if1 .left in
-    let f = eq-eqb _ _ (b .before .if2 .taken) in
-    let g = eq-eqb _ _ (sym (b .byte-at .ensures) ∙ c .if3 .left) in
-    (omega arith, omega arith, sym (literal-both (a .style) (a .q) (a .text .now) _ (l .loop-test .taken) (rw (n, f, g) refl)) ∙ l .before .loop .inv .2)
+    let n = rw (d .before .byte-at .ensures) at (sym (d .hides-next .ensures) ∙ c .if2 .taken) in
+    (omega arith, omega arith, sym (literal-both (a .style) (a .q) (a .text .now) _ (l .loop-test .taken) n) ∙ l .before .loop .inv .2)
+
+returns : tie.Need-returns Inv-loop μ-loop
+returns c =
+    let d : tie.After-hides-next Inv-loop μ-loop = c .before .before in
+    let l : tie.In-loop Inv-loop μ-loop = d .before .before .before .before in
+    let a = l .before .before .before .args in
+    let n = rw (d .before .byte-at .ensures) at (sym (d .hides-next .ensures) ∙ c .before .if2 .left) in
+    (sym (literal-closed (a .style) (a .q) (a .text .now) _ (l .loop-test .taken) n (eq-eqb _ _ (c .if3 .taken))) ∙ l .before .loop .inv .2, omega arith)
 
 loop-again-3 : tie.Need-loop-again-3 Inv-loop μ-loop
 loop-again-3 c =
-    let d : tie.After-escapes Inv-loop μ-loop = c .before .before in
-    let l : tie.In-loop Inv-loop μ-loop = d .before .before in
+    let d : tie.After-hides-next Inv-loop μ-loop = c .before .before in
+    let l : tie.In-loop Inv-loop μ-loop = d .before .before .before .before in
     let a = l .before .before .before .args in
-    let n = sym (d .escapes .ensures) ∙ c .before .if1 .left in
-    let f = ne-eqb _ _ (c .if2 .left) in
-    (omega arith, omega arith, sym (literal-plain (a .style) (a .q) (a .text .now) _ (l .loop-test .taken) (rw (n, f) refl) f) ∙ l .before .loop .inv .2)
+    let n = rw (d .before .byte-at .ensures) at (sym (d .hides-next .ensures) ∙ c .before .if2 .left) in
+    (omega arith, omega arith, sym (literal-plain (a .style) (a .q) (a .text .now) _ (l .loop-test .taken) n (ne-eqb _ _ (c .if3 .left))) ∙ l .before .loop .inv .2)
 
 pub quote-end-spec : {M : Type 1} → statement M
 quote-end-spec =
@@ -65,17 +62,17 @@ quote-end-spec =
     μ-loop
     (λ c. (omega arith, omega arith, refl))
     (λ c. omega arith)
-    (λ c κs. search needs)
     (λ c. omega arith)
     (λ c. omega arith)
     loop-again
     (λ c. omega arith)
     (λ c κs. search needs)
-    (λ c. omega arith)
-    returns
+    (λ c κs. search needs)
     (λ c. omega arith)
     (λ c. omega arith)
     loop-again-2
+    (λ c. omega arith)
+    returns
     (λ c. omega arith)
     (λ c. omega arith)
     loop-again-3
