@@ -38,9 +38,9 @@ pub fn rows(report: &Report) {
         row(report, &format!("split Fortran, paths, {name}"), &ended(PATHS, bytes), FORTRAN);
     }
     for (name, bytes) in [("half", 8_192), ("full", 16_384)] {
-        row(report, &format!("split Fortran, shortest literals, {name}"), &ended("'\\',", bytes), FORTRAN);
-        row(report, &format!("split Fortran, one literal of quotes, {name}"), &"'".repeat(bytes), FORTRAN);
-        row(report, &format!("split Fortran, one literal of backslashes, {name}"), &format!("'{}'", "\\".repeat(bytes - 2)), FORTRAN);
+        row(report, &format!("split Fortran, short literals, {name}"), &ended("'\\',", bytes), FORTRAN);
+        row(report, &format!("split Fortran, quotes, {name}"), &"'".repeat(bytes), FORTRAN);
+        row(report, &format!("split Fortran, backslashes, {name}"), &format!("'{}'", "\\".repeat(bytes - 2)), FORTRAN);
     }
     report.heading("trim against str::trim", "Rust ns");
     trim_row(report, "trim", &format!("  \t{}\n   ", repeated(LIST, 400)));

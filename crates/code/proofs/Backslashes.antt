@@ -1,7 +1,7 @@
 -- A literal, a piece and a scan of a text without a backslash, in two styles: by induction over the text, as each is defined.
 -- Assumes nothing.
 use Prim.Native.Nat.{ℕ, zero, suc}
-use mathlib.Core.Bool.{Bool, true, false, and-false}
+use mathlib.Core.Bool.{false, and-false}
 use mathlib.Core.Path.{_≡_, refl, ap}
 use mathlib.Core.List.{List, [], _∷_}
 use lib.Dec.{eqb}

@@ -5,7 +5,9 @@ use crate::Piece;
 use crate::Unclosed;
 use ascii::ByteSet;
 ghost use mathlib.Core.Path.{_≡_};
+ghost use mathlib.Core.Bool.{_&&_};
 ghost use Prim.Native.Nat.{_+_, _<_, _≤_};
+ghost use lib.Dec.{eqb};
 ghost use lib.ListN.{length, drop, getD};
 ghost use Rattle.ascii.specs.Ascii.{isEol};
 ghost use Rattle.ascii.specs.Text.{upTo};
@@ -23,12 +25,27 @@ fn has_escapes(style: CommentStyle) -> bool
     }
 }
 
-// Whether a byte of a literal in q keeps the one after it inside.
-fn hides_next(style: CommentStyle, q: u8, b: u8, next: u8) -> bool
-    ensures { λ r. ⌜ r ≡ hidesNext style q b next ⌝ }
+// Whether the quote q stands at a place and behind it. The next byte is asked for behind a quote alone.
+fn is_doubled(text: &[u8], at: usize, q: u8) -> bool
+    requires { ⌜ at < length (now text) ⌝ }
+    ensures { λ r. ⌜ r ≡ (eqb (getD (now (text .entry)) at 0) q && eqb (getD (now (text .entry)) (at + 1) 0) q) ⌝ }
+{
+    if text[at] == q {
+        return ascii::byte_at(text, at + 1) == q;
+    }
+    false
+}
+
+// Whether the byte at a place of a literal in q keeps the one after it inside.
+fn hides_next(text: &[u8], at: usize, q: u8, style: CommentStyle) -> bool
+    requires { ⌜ at < length (now text) ⌝ }
+    ensures { λ r. ⌜ r ≡ hidesNext style q (getD (now (text .entry)) at 0) (getD (now (text .entry)) (at + 1) 0) ⌝ }
 {
     let escapes = has_escapes(style);
-    (escapes & (b == 92)) | ((b == q) & (next == q))
+    if escapes & (text[at] == 92) {
+        return true;
+    }
+    is_doubled(text, at, q)
 }
 
 // The end of a literal in q, from a place inside it.
@@ -39,12 +56,9 @@ pub fn quote_end(text: &[u8], from: usize, q: u8, style: CommentStyle) -> End
 {
     let mut i = from;
     while i < text.len() {
-        let b = text[i];
-        if (b != q) & (b != 92) {
-            i += 1;
-        } else if hides_next(style, q, b, ascii::byte_at(text, i + 1)) {
+        if hides_next(text, i, q, style) {
             i += 2;
-        } else if b == q {
+        } else if text[i] == q {
             return End::Before(i + 1);
         } else {
             i += 1;

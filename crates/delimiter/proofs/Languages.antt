@@ -1,15 +1,11 @@
 -- A text without a backslash is split alike in every language: the styles have the same comments, and so the same scan.
 -- Assumes nothing.
-use Prim.Native.Nat.{ℕ}
-use mathlib.Core.Bool.{Bool, false}
+use mathlib.Core.Bool.{false}
 use mathlib.Core.Path.{_≡_, refl, sym, _∙_}
-use mathlib.Core.List.{List}
-use Rattle.code.specs.Code.{isCLike, isFortran, scanFrom}
-use Rattle.code.specs.Laws.{hasBackslash}
+use Rattle.code.specs.Code.{isCLike, isFortran}
 use Rattle.code.proofs.Backslashes.{scan-stays}
 use Rattle.lexer.specs.declared.Language.{Language}
 use Rattle.lexer.specs.declared.Language.the-variants.{C, FortranFree, FortranFixed}
-use Rattle.delimiter.specs.declared.Separator.{Separator}
 use Rattle.delimiter.specs.Split.{splitStyle, split, splitCall}
 use Rattle.delimiter.specs.Laws.{SplitsWithoutBackslashStay}
 
