@@ -17,27 +17,18 @@ const QUOTE_TOKENS: &Tokens = &[b"'", b"\"", b"\\", b"/", b"*", b"a", b","];
 /// Language, separator, angles.
 type Way = (&'static str, &'static str, usize);
 
-const WAYS: [Way; 12] = [
-    ("c", "comma", 0),
-    ("c", "comma", 1),
-    ("c", "colon", 0),
-    ("c", "colon", 1),
-    ("free", "comma", 0),
-    ("free", "comma", 1),
-    ("free", "colon", 0),
-    ("free", "colon", 1),
-    ("fixed", "comma", 0),
-    ("fixed", "comma", 1),
-    ("fixed", "colon", 0),
-    ("fixed", "colon", 1),
-];
+fn ways() -> Vec<Way> {
+    let cuts = [("comma", 0), ("comma", 1), ("colon", 0), ("colon", 1)];
+    let of = |language| cuts.map(|(separator, angles)| (language, separator, angles));
+    ["c", "free", "fixed"].map(of).concat()
+}
 
 fn ask(way: Way, slots: usize, text: &[u8]) -> String {
     format!("split {} {} {} {slots} {}", way.0, way.1, way.2, hexadecimal(text))
 }
 
 pub fn boundaries(sink: &mut Sink) {
-    for way in WAYS {
+    for way in ways() {
         if way.0 != "fixed" {
             depths(way, sink);
             lengths(way, sink);
@@ -106,8 +97,8 @@ fn lengths(way: Way, sink: &mut Sink) {
 
 pub fn short(limit: usize, sink: &mut Sink, random: &mut Random) {
     for tokens in [TOKENS, ANGLE_TOKENS, COLON_TOKENS, QUOTE_TOKENS, LITERAL_TOKENS] {
-        short_texts(tokens, limit / 5 / WAYS.len(), random, |random, text| {
-            for way in WAYS {
+        short_texts(tokens, limit / 5 / ways().len(), random, |random, text| {
+            for way in ways() {
                 sink.give(ask(way, random.pick(&[0, 1, 2, 3, 4, 6, 9]), text));
             }
         });
@@ -115,7 +106,7 @@ pub fn short(limit: usize, sink: &mut Sink, random: &mut Random) {
 }
 
 pub fn random(sink: &mut Sink, random: &mut Random) {
-    let way = random.pick(&WAYS);
+    let way = random.pick(&ways());
     let separator = if way.1 == "comma" { "," } else { ":" };
     let mut text = match random.below(4) {
         0 => random_text(TOKENS, 30, random),
