@@ -11,7 +11,7 @@ use Rattle.code.specs.Code.{isCLike, isFortran, hasEscapes, more, litera
 use Rattle.code.specs.Laws.{hasBackslash, QuotesOfCStay, LiteralsWithoutBackslashStay}
 
 pub quotes-of-c-stay : QuotesOfCStay
-quotes-of-c-stay style e q x next = rw e refl
+quotes-of-c-stay q x next = (refl, refl)
 
 module _ (x : ℕ) (xs : List ℕ) (h : hasBackslash (x ∷ xs) ≡ false) where
   first-plain : eqb x 92 ≡ false
