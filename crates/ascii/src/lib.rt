@@ -1,4 +1,6 @@
 // Bytes and texts: classes of bytes, runs, trimming, comparing at a place.
+#![tactic(auto)]
+
 pub mod class;
 
 ghost use Rattle.std.specs.Prelude.{◌≡◌, reverse, ◌++◌, ◌+◌, ◌-◌, ◌≤◌, length, take, drop, get_or, eqb};
@@ -6,21 +8,21 @@ ghost use Rattle.ascii.specs.Ascii.{is_trimmed};
 ghost use Rattle.ascii.specs.Text.{leading, trimmed, LentPart, trim_call, begins, same_by, first_high, found_at, comparing, holds};
 
 // A range of a text: the place of its first byte and the place after its last.
-#[derive(Drop)]
+#[derive(Clone, Copy)]
 pub struct Range {
     pub start: usize,
     pub end: usize,
 }
 
 // A place that was searched for, if there is one.
-#[derive(Drop)]
+#[derive(Clone, Copy)]
 pub enum Found {
     At(usize),
     Nothing,
 }
 
 // The sets of bytes of which runs are sought.
-#[derive(Drop)]
+#[derive(Clone, Copy)]
 pub enum ByteSet {
     Trimmed,
     Space,

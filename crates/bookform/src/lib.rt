@@ -1,9 +1,11 @@
 // The form of a book: what its bytes may be, and the first that may not.
+#![tactic(auto)]
+
 pub mod format;
 mod passing;
 
 // What a clause may look like.
-#[derive(Drop)]
+#[derive(Clone, Copy)]
 pub enum ClauseRule {
     // a word alone
     Bare,
@@ -16,14 +18,14 @@ pub enum ClauseRule {
 }
 
 // What a rule byte says.
-#[derive(Drop)]
+#[derive(Clone, Copy)]
 pub enum RuleByte {
     Known(ClauseRule),
     Unknown,
 }
 
 // What a reader of a book waits for. Counts of entries are of those that come after the one being read.
-#[derive(Drop)]
+#[derive(Clone, Copy)]
 pub enum Expect {
     // a byte of the header, 0 to 7
     HeaderByte(usize),
@@ -43,14 +45,14 @@ pub enum Expect {
 }
 
 // What a byte leads to.
-#[derive(Drop)]
+#[derive(Clone, Copy)]
 pub enum Step {
     Next(Expect),
     Bad,
 }
 
 // A place of a book, and what is waited for there.
-#[derive(Drop)]
+#[derive(Clone, Copy)]
 pub struct Waiting {
     pub at: usize,
     pub expect: Expect,
@@ -58,7 +60,7 @@ pub struct Waiting {
 
 // Where entries of one kind stand: as many bytes as lead come before an entry's length byte (none in a directive entry, the rule byte
 // in a clause entry), the place of the first entry, and how many there are.
-#[derive(Drop)]
+#[derive(Clone, Copy)]
 pub struct Entries {
     pub lead: usize,
     pub first: usize,

@@ -1,4 +1,6 @@
 // The public calls for programs in C and Rust: numbers and slices only, and an answer that is one number (include/pelzurda.h).
+#![tactic(auto)]
+
 ghost use Rattle.std.specs.Prelude.{◌≡◌, ◌-◌, length};
 ghost use Rattle.ascii.specs.Text.{trimmed};
 ghost use Rattle.delimiter.specs.Split.{split_call};

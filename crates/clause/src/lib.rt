@@ -1,4 +1,6 @@
 // Clauses: one clause under a book's rule, and the sequence of clauses.
+#![tactic(auto)]
+
 pub mod many;
 pub mod records;
 pub mod single;
@@ -14,7 +16,7 @@ use rulebook::Header;
 // What is recorded of a clause: offsets of the joined text, its entry in the book, and its commas.
 // A zeroed record is bare with every number 0.
 #[repr(C)]
-#[derive(Drop)]
+#[derive(Clone, Copy)]
 pub struct ClauseRecord {
     pub name_start: u16,
     pub name_end: u16,
@@ -31,21 +33,21 @@ pub struct ClauseRecord {
 }
 
 // How many clauses were read, and the place of the unread rest.
-#[derive(Drop)]
+#[derive(Clone, Copy)]
 pub struct SequenceEnd {
     pub count: usize,
     pub rest: usize,
 }
 
 // The clauses' number and the rest, or a refusal.
-#[derive(Drop)]
+#[derive(Clone, Copy)]
 pub enum SequenceAnswer {
     Read(SequenceEnd),
     Refused(Refusal),
 }
 
 // A clause's word: its range of the text, and its entry in the book, 65,535 for none.
-#[derive(Drop)]
+#[derive(Clone, Copy)]
 pub struct ClauseWord {
     pub start: usize,
     pub end: usize,
@@ -53,7 +55,7 @@ pub struct ClauseWord {
 }
 
 // What was read at a place: a clause with the place after it, a failure that the default rule judges, or the 257th bracket open.
-#[derive(Drop)]
+#[derive(Clone, Copy)]
 pub enum ClauseRead {
     Clause(ClauseRecord, usize),
     Failed(Refusal),
@@ -61,14 +63,14 @@ pub enum ClauseRead {
 }
 
 // What follows a clause: a place, with or without a comma on the way, or an open comment.
-#[derive(Drop)]
+#[derive(Clone, Copy)]
 pub enum Separation {
     Then(bool, usize),
     OpenAt(usize),
 }
 
 // How far a sequence has come: more is to be read, the list has ended, or it is refused.
-#[derive(Drop)]
+#[derive(Clone, Copy)]
 pub enum Progress {
     Going,
     Ended,
@@ -76,7 +78,7 @@ pub enum Progress {
 }
 
 // A sequence between two clauses.
-#[derive(Drop)]
+#[derive(Clone, Copy)]
 pub struct SequenceState {
     // the record for the slot of the last step, zeroed if that step read no clause
     pub clause: ClauseRecord,
@@ -94,7 +96,7 @@ pub struct SequenceState {
 }
 
 // The answer with its slots, by value.
-#[derive(Drop)]
+#[derive(Clone, Copy)]
 pub struct Sequence512 {
     pub answer: SequenceAnswer,
     pub records: [ClauseRecord; 512],

@@ -1,11 +1,13 @@
 // Code bytes, brackets and the matching parenthesis: what quotes and comments leave of a text, and what closes what.
+#![tactic(auto)]
+
 pub mod brackets;
 pub mod code;
 pub mod matching;
 pub mod walk;
 
 // Which comments are invisible besides block comments, and whose literals: in those of C a backslash hides the byte after it.
-#[derive(Drop)]
+#[derive(Clone, Copy)]
 pub enum CommentStyle {
     // none; literals of C
     Block,
@@ -18,14 +20,14 @@ pub enum CommentStyle {
 }
 
 // Where a literal or comment ends: its last byte stands before a place, or it has no end.
-#[derive(Drop)]
+#[derive(Clone, Copy)]
 pub enum End {
     Before(usize),
     Never,
 }
 
 // What a text has at a place: a byte of code, a run of so many invisible bytes, or a literal or comment without an end.
-#[derive(Drop)]
+#[derive(Clone, Copy)]
 pub enum Piece {
     Code,
     Hidden(usize),
@@ -34,7 +36,7 @@ pub enum Piece {
 }
 
 // The first literal or comment without an end, with its place.
-#[derive(Drop)]
+#[derive(Clone, Copy)]
 pub enum Unclosed {
     Nothing,
     Quote(usize),
@@ -42,7 +44,7 @@ pub enum Unclosed {
 }
 
 // The kinds of brackets.
-#[derive(Drop)]
+#[derive(Clone, Copy)]
 pub enum Bracket {
     Round,
     Square,
@@ -51,7 +53,7 @@ pub enum Bracket {
 }
 
 // The open brackets: the closing byte of each, the outermost first, and how many they are.
-#[derive(Drop)]
+#[derive(Clone, Copy)]
 pub struct OpenBrackets {
     pub closing: [u8; 256],
     pub depth: usize,
@@ -59,7 +61,7 @@ pub struct OpenBrackets {
 
 // What a byte of code does to the open brackets: one more, which this byte closes; the innermost less; none; it closes none that it could; it is
 // the 257th.
-#[derive(Drop)]
+#[derive(Clone, Copy)]
 pub enum Change {
     Push(u8),
     Pop,
@@ -69,7 +71,7 @@ pub enum Change {
 }
 
 // Where an open parenthesis is closed: at a place, nowhere, or not found before the 257th bracket is open, at its place.
-#[derive(Drop)]
+#[derive(Clone, Copy)]
 pub enum Match {
     ClosedAt(usize),
     Unmatched,

@@ -1,4 +1,6 @@
 // Answers as numbers, and numbers as what they stand for: what the calls for programs in C and Rust are made of.
+#![tactic(auto)]
+
 pub mod lines;
 pub mod sequences;
 

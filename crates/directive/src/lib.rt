@@ -1,4 +1,6 @@
 // The directive's name: the longest run of words that is a name of the book.
+#![tactic(auto)]
+
 pub mod candidate;
 pub mod names;
 
@@ -20,7 +22,7 @@ use refusal::{Reason, Refusal};
 use rulebook::Header;
 
 // The entry of a directive's name, and where the name stands in the text.
-#[derive(Drop)]
+#[derive(Clone, Copy)]
 pub struct DirectiveName {
     pub entry: usize,
     pub start: usize,
@@ -28,14 +30,14 @@ pub struct DirectiveName {
 }
 
 // The name, or a refusal.
-#[derive(Drop)]
+#[derive(Clone, Copy)]
 pub enum NameAnswer {
     Found(DirectiveName),
     Refused(Refusal),
 }
 
 // How a candidate is compared with a name.
-#[derive(Drop)]
+#[derive(Clone, Copy)]
 pub struct Comparison {
     pub ignore_case: bool,
     // blanks are left out, and case is ignored
@@ -45,7 +47,7 @@ pub struct Comparison {
 }
 
 // How many entries agree with a candidate.
-#[derive(Drop)]
+#[derive(Clone, Copy)]
 pub enum Tally {
     Never,
     // the index of the only one
@@ -54,14 +56,14 @@ pub enum Tally {
 }
 
 // The last candidate that was a name: its entry and its end.
-#[derive(Drop)]
+#[derive(Clone, Copy)]
 pub enum Latest {
     Unnamed,
     Named(usize, usize),
 }
 
 // What follows a word of a name.
-#[derive(Drop)]
+#[derive(Clone, Copy)]
 pub enum Next {
     // another word that may belong to it, at a place
     Word(usize),

@@ -1,4 +1,6 @@
 // Lists the directive line of standard input, C with omp, under the book `rules.drb`: its name, its clauses and the unread rest, by physical places.
+#![tactic(auto)]
+
 mod list;
 
 ghost use Rattle.std.specs.Prelude.{◌≤◌, length};

@@ -1,4 +1,6 @@
 // Continuations, sentinels and trivia of a directive line.
+#![tactic(auto)]
+
 pub mod continuation;
 pub mod trivia;
 
@@ -10,7 +12,7 @@ use ascii::ByteSet;
 use refusal::{Reason, Refusal};
 
 // The language of a line, with the source form of Fortran.
-#[derive(Drop)]
+#[derive(Clone, Copy)]
 pub enum Language {
     C,
     FortranFree,
@@ -18,34 +20,34 @@ pub enum Language {
 }
 
 // The directives' prefix.
-#[derive(Drop)]
+#[derive(Clone, Copy)]
 pub enum Prefix {
     Omp,
     Acc,
 }
 
 // The stretch of trivia that a text begins with: a run of so many bytes, 0 for none, or a comment without an end.
-#[derive(Drop)]
+#[derive(Clone, Copy)]
 pub enum Stretch {
     Run(usize),
     Open,
 }
 
 // The place after all trivia, or the place of a comment without an end.
-#[derive(Drop)]
+#[derive(Clone, Copy)]
 pub enum Skipped {
     Past(usize),
     OpenAt(usize),
 }
 
 // A place in a text, which moves forward.
-#[derive(Drop)]
+#[derive(Clone, Copy)]
 pub struct Cursor {
     pub at: usize,
 }
 
 // Where a step leads, or why it fails.
-#[derive(Drop)]
+#[derive(Clone, Copy)]
 pub enum Step {
     At(Cursor),
     Refused(Refusal),

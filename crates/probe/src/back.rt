@@ -3,7 +3,7 @@ use crate::print::Out;
 use crate::words::{ends, list_at, nth, number_at};
 use source::SpanAnswer;
 
-#[derive(Drop)]
+#[derive(Clone, Copy)]
 pub struct BackRequest {
     pub good: bool,
     pub length: usize,

@@ -3,7 +3,7 @@ use crate::print::Out;
 use crate::words::{part, same, word_at};
 use crate::{back, book, copy, join, line, sequence, split, trim};
 
-#[derive(Drop)]
+#[derive(Clone, Copy)]
 pub enum Call {
     Trim,
     Split,

@@ -5,7 +5,7 @@ use crate::words::{Number, choice_at, nth, slots_at};
 use lexer::{Language, Prefix};
 
 // language: 0 for C, 1 for free form, 2 for fixed form; prefix: 0 for omp, 1 for acc.
-#[derive(Drop)]
+#[derive(Clone, Copy)]
 pub struct Form {
     pub good: bool,
     pub language: usize,

@@ -1,4 +1,6 @@
 // Answers the requests of standard input, one a line, on standard output, one line each.
+#![tactic(auto)]
+
 mod back;
 mod book;
 mod calls;
@@ -18,7 +20,7 @@ use libc::STDIN_FILENO;
 use print::Out;
 
 // How much of a request is gathered, and how much of the answers.
-#[derive(Drop)]
+#[derive(Clone, Copy)]
 pub struct State {
     pub len: usize,
     pub out: Out,

@@ -5,7 +5,7 @@ use libc::STDOUT_FILENO;
 use refusal::Refusal;
 
 // How many bytes of the buffer wait to be written.
-#[derive(Drop)]
+#[derive(Clone, Copy)]
 pub struct Out {
     pub len: usize,
 }

@@ -8,7 +8,7 @@ use crate::words::{choice_at, ends, hex_at, nth, slots_at};
 use delimiter::{Separator, SplitAnswer};
 
 // language: 0 for C, 1 for free form, 2 for fixed form; separator: 0 for the comma, 1 for the colon.
-#[derive(Drop)]
+#[derive(Clone, Copy)]
 pub struct SplitRequest {
     pub good: bool,
     pub language: usize,

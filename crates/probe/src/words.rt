@@ -3,14 +3,14 @@ ghost use Rattle.std.specs.Prelude.{◌≤◌, ◌≡◌, length};
 ghost use Rattle.probe.specs.Words.{Within};
 
 // A word's place in its line: from start up to, not including, end.
-#[derive(Drop)]
+#[derive(Clone, Copy)]
 pub struct Word {
     pub start: usize,
     pub end: usize,
 }
 
 // A number that a word spells; good is false where it spells none.
-#[derive(Drop)]
+#[derive(Clone, Copy)]
 pub struct Number {
     pub good: bool,
     pub value: usize,
@@ -22,7 +22,7 @@ const NONE: Number = Number {
 };
 
 // How many bytes two words spell; good is false where either spells none.
-#[derive(Drop)]
+#[derive(Clone, Copy)]
 pub struct Sizes {
     pub good: bool,
     pub first: usize,

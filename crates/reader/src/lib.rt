@@ -1,4 +1,6 @@
 // The whole line: from physical bytes to a directive's name and its clauses in order.
+#![tactic(auto)]
+
 pub mod checks;
 pub mod heading;
 pub mod line;
@@ -15,7 +17,7 @@ use refusal::Refusal;
 
 // The reading of a line: the directive's entry and where its name stands, the number of clause records, and the place of the unread rest.
 // Places are offsets of the joined text.
-#[derive(Drop)]
+#[derive(Clone, Copy)]
 pub struct Reading {
     pub entry: usize,
     pub name_start: usize,
@@ -25,7 +27,7 @@ pub struct Reading {
 }
 
 // A reading, or a refusal.
-#[derive(Drop)]
+#[derive(Clone, Copy)]
 pub enum LineAnswer {
     Read(Reading),
     Refused(Refusal),
@@ -33,7 +35,7 @@ pub enum LineAnswer {
 
 // What stands once the name is read: the name, how much of the joined text and of its map, and where the clauses start.
 // A refusal is a start that is refused.
-#[derive(Drop)]
+#[derive(Clone, Copy)]
 pub struct Head {
     pub name: DirectiveName,
     pub length: usize,
@@ -42,7 +44,7 @@ pub struct Head {
 }
 
 // The answer with its record slots, by value.
-#[derive(Drop)]
+#[derive(Clone, Copy)]
 pub struct Line512 {
     pub answer: LineAnswer,
     pub records: [ClauseRecord; 512],

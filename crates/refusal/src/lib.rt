@@ -1,11 +1,13 @@
 // The table of refusals of document 01: each reason with its number, and a refusal with its place.
+#![tactic(auto)]
+
 ghost use Rattle.std.specs.Prelude.{◌≡◌, ◌++◌, ◌-◌, ◌≤◌, length, take, replicate};
 ghost use Rattle.refusal.specs.Table.{number_of};
 ghost use Rattle.refusal.specs.Verdict.{text_verdict};
 
 use ascii::Found;
 
-#[derive(Drop)]
+#[derive(Clone, Copy)]
 pub enum Reason {
     // 1: the line or text has more than 16,384 bytes
     TooLong,
@@ -47,7 +49,7 @@ pub enum Reason {
     BadSpan,
 }
 
-#[derive(Drop)]
+#[derive(Clone, Copy)]
 pub struct Refusal {
     pub reason: Reason,
     pub place: usize,
@@ -81,7 +83,7 @@ pub fn number(reason: Reason) -> u8
 }
 
 // What a check finds before a call goes on.
-#[derive(Drop)]
+#[derive(Clone, Copy)]
 pub enum Verdict {
     Fine,
     Bad(Refusal),

@@ -1,4 +1,6 @@
 // The book: a file of directive names, clause names and rules.
+#![tactic(auto)]
+
 pub mod index;
 pub mod lookup;
 mod repeats;
@@ -13,7 +15,7 @@ use bookform::{ClauseRule, Entries, format};
 use refusal::{Reason, Refusal};
 
 // What a book's header says.
-#[derive(Drop)]
+#[derive(Clone, Copy)]
 pub struct Header {
     pub ignores_case: bool,
     pub optional_blanks: bool,
@@ -23,28 +25,28 @@ pub struct Header {
 }
 
 // An entry that was looked up: its index and the place of its first byte.
-#[derive(Drop)]
+#[derive(Clone, Copy)]
 pub enum EntryFound {
     At(usize, usize),
     Nothing,
 }
 
 // What a book says of a clause's name: the index of its entry, 65,535 if it has none, and its rule.
-#[derive(Drop)]
+#[derive(Clone, Copy)]
 pub struct ClauseEntry {
     pub index: u16,
     pub rule: ClauseRule,
 }
 
 // The book is valid, or refusal 4 with its place.
-#[derive(Drop)]
+#[derive(Clone, Copy)]
 pub enum BookAnswer {
     Valid,
     Refused(Refusal),
 }
 
 // What the check of a book leaves to all that is read under it: its verdict, and the header if it is valid.
-#[derive(Drop)]
+#[derive(Clone, Copy)]
 pub struct CheckedBook {
     pub verdict: BookAnswer,
     pub header: Header,

@@ -34,7 +34,7 @@ fn is_repeat(book: &[u8], earlier: Entries, index: &[u32], mark: usize, name: &[
 }
 
 // What is found among entries: the place of the first that repeats an earlier one's name, if there is one, and else where they end.
-#[derive(Drop)]
+#[derive(Clone, Copy)]
 pub struct Repeats {
     pub found: Found,
     pub end: usize,

@@ -1,4 +1,6 @@
 // One logical line of several physical ones: joining with its byte map, map-back, content copy.
+#![tactic(auto)]
+
 pub mod joining;
 mod runs;
 
@@ -11,28 +13,28 @@ use lexer::{Language, Prefix};
 use refusal::{Reason, Refusal, Verdict};
 
 // The length of the joined text, or a refusal.
-#[derive(Drop)]
+#[derive(Clone, Copy)]
 pub enum JoinAnswer {
     Joined(usize),
     Refused(Refusal),
 }
 
 // A physical range.
-#[derive(Drop)]
+#[derive(Clone, Copy)]
 pub struct Span {
     pub start: usize,
     pub end: usize,
 }
 
 // The physical range of a joined one, or a refusal.
-#[derive(Drop)]
+#[derive(Clone, Copy)]
 pub enum SpanAnswer {
     Found(Span),
     Refused(Refusal),
 }
 
 // The length of the copy, or a refusal.
-#[derive(Drop)]
+#[derive(Clone, Copy)]
 pub enum CopyAnswer {
     Copied(usize),
     Refused(Refusal),

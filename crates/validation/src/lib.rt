@@ -1,4 +1,6 @@
 // Validation of a logical line: each end of line that more text follows must be continued.
+#![tactic(auto)]
+
 ghost use Rattle.std.specs.Prelude.{◌≡◌, reverse, ◌+◌, ◌-◌, ◌<◌, ◌≤◌, length, take, drop, ltb};
 ghost use Rattle.ascii.specs.Text.{starts, found_at};
 ghost use Rattle.validation.specs.declared.Quoting.TheVariants.{Outside};
@@ -9,7 +11,7 @@ use lexer::{Language, Prefix, continuation};
 
 // What a physical line, with all that follows it, says of the whole: all is well, a fault at a place,
 // or well as far as the next physical line, so many bytes on.
-#[derive(Drop)]
+#[derive(Clone, Copy)]
 pub enum Checked {
     Fine,
     WrongAt(usize),
@@ -18,7 +20,7 @@ pub enum Checked {
 
 // Where the scan of a physical line stands: outside of literals, inside one with its quote, or after a quote in one that
 // may be the first of two.
-#[derive(Drop)]
+#[derive(Clone, Copy)]
 pub enum Quoting {
     Outside,
     Inside(u8),
