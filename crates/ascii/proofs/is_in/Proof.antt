@@ -6,8 +6,8 @@ use borrow.Author.Rules.{rules}
 use Rattle.ascii.proofs.is_in.Statement.{statement}
 use Rattle.ascii.proofs.is_in.Tie as tie
 
-pub is-in-spec : {M : Type 1} → statement M
-is-in-spec =
+pub is_in_spec : {M : Type 1} → statement M
+is_in_spec =
     tie.close
     (tie.spec
     (λ c. search rules)
@@ -20,8 +20,8 @@ is-in-spec =
     (λ c κs. search rules)
     (λ c. search rules)
     (λ c κs. search rules)
-    (λ c. rw c.before.enum_told.given.1 c.is-trimmed.ensures)
-    (λ c. rw c.before.enum-told2.given.1 c.is-space.ensures)
-    (λ c. rw c.before.enum-told3.given.1 c.is-blank.ensures)
-    (λ c. rw c.before.enum-told4.given.1 c.is_IsWord.ensures)
-    (λ c. rw c.before.enum-told5.given.1 (ap not c.is-eol.ensures)))
+    (λ c. rw c.in-Trimmed.is c.is_trimmed.ensures)
+    (λ c. rw c.in-Space.is c.is_space.ensures)
+    (λ c. rw c.in-Blank.is c.is_blank.ensures)
+    (λ c. rw c.in-Word.is c.is_word.ensures)
+    (λ c. rw c.in-InLine.is (ap not c.is_eol.ensures)))

@@ -7,13 +7,13 @@ use Rattle.ascii.specs.Text.{comparing}
 use Rattle.ascii.proofs.same_byte.Statement.{statement}
 use Rattle.ascii.proofs.same_byte.Tie as tie
 
-pub same-byte-spec : {M : Type 1} → statement M
-same-byte-spec =
+pub same_byte_spec : {M : Type 1} → statement M
+same_byte_spec =
     tie.close
     (tie.spec
-    (λ c. sym (eq-eqb _ _ (ap (comparing c.before.args.ignore-case) c.if1.true)))
-    (λ c. rw (not-true c.before.before.args.ignore-case c.if2.true) (sym (ne_eqb _ _ c.before.if1.false)))
+    (λ c. sym (eq-eqb _ _ (ap (comparing c.args.ignore_case) c.if-a-b.true)))
+    (λ c. rw (not-true c.args.ignore_case c.if-not-ignore_case.true-raw) (sym (ne_eqb _ _ c.if-a-b.false)))
     (λ c κs. search rules)
     (λ c κs. search rules)
-    (λ c. let m : tie.Else2 = c.before.before in
-    rw (not-false m.before.before.args.ignore-case m.if2.false, c.before.fold.ensures, c.fold2.ensures)))
+    (λ c. let m : tie.Else-not-ignore_case = c.before.before in
+    rw (not-false m.args.ignore_case m.if-not-ignore_case.false-raw, c.fold.ensures, c.fold-2.ensures)))

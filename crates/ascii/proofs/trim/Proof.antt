@@ -10,8 +10,8 @@ use Rattle.ascii.proofs.trim.Tie as tie
 
 returns : tie.Need-returns
 returns c =
-    let t = c.before.before.before.args.text in
-    ap (λ (r : Range). record { at = (t.ref_ptr.0, r.start + t.ref_ptr.1); bytes = part t.now r }) c.before.trim-range.ensures.0
+    let t = c.args.text in
+    ap (λ (r : Range). record { at = (t.ref_ptr.0, r.start + t.ref_ptr.1); bytes = part t.now r }) c.trim_range-range.ensures.0
 
-pub trim-spec : {M : Type 1} → statement M
-trim-spec = tie.close (tie.spec (λ c κs. search rules) (λ c. search rules) (λ c. search rules) (λ c. search rules) returns)
+pub trim_spec : {M : Type 1} → statement M
+trim_spec = tie.close (tie.spec (λ c κs. search rules) (λ c. search rules) (λ c. search rules) (λ c. search rules) returns)

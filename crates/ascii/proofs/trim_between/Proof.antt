@@ -8,10 +8,10 @@ use Rattle.ascii.proofs.trim_between.Statement.{statement}
 use Rattle.ascii.proofs.trim_between.Tie as tie
 
 returns : tie.Need-returns
-returns c = (part-shift _ _ _ c.before.before.trim-range.ensures.0, omega (arith, simp (length-take, length-drop) at c.before.before.trim-range.ensures.1.1))
+returns c = (part-shift _ _ _ c.trim_range-range.ensures.0, omega (arith, simp (length-take, length-drop) at c.trim_range-range.ensures.1.1))
 
-pub trim-between-spec : {M : Type 1} → statement M
-trim-between-spec =
+pub trim_between_spec : {M : Type 1} → statement M
+trim_between_spec =
     tie.close
     (tie.spec
     (λ c. search rules)

@@ -7,12 +7,12 @@ use Rattle.ascii.proofs.Texts.{trimmed-blank, trimmed-ends}
 use Rattle.ascii.proofs.trim_range.Statement.{statement}
 use Rattle.ascii.proofs.trim_range.Tie as tie
 
-returns : tie.Need-returns
-returns c = (sym (trimmed-blank 0 c.before.before.before.args.text.now (omega arith)), omega arith)
+returns : tie.Need-returns-then-start-text
+returns c = (sym (trimmed-blank 0 c.args.text.now (omega arith)), omega arith)
 
-returns-2 : tie.Need-returns-2
+returns-2 : tie.Need-returns
 returns-2 c =
-    trimmed-ends c.before.before.before.before.args.text.now _ _ c.before.before.run-end.ensures.0 c.trimmed-end.ensures c.before.if1.false
+    trimmed-ends c.args.text.now _ _ c.run_end-start.ensures.0 c.trimmed_end-end.ensures c.if-start-text.false
 
-pub trim-range-spec : {M : Type 1} → statement M
-trim-range-spec = tie.close (tie.spec (λ c κs. search rules) returns (λ c κs. search rules) returns-2)
+pub trim_range_spec : {M : Type 1} → statement M
+trim_range_spec = tie.close (tie.spec (λ c κs. search rules) returns (λ c κs. search rules) returns-2)

@@ -14,28 +14,28 @@ use Rattle.ascii.proofs.Texts.{trailing-more, trailing-stop}
 use Rattle.ascii.proofs.trimmed_end.Statement.{statement}
 use Rattle.ascii.proofs.trimmed_end.Tie as tie
 
-abbrev invariant-loop : tie.invariant-loop
-invariant-loop text i₀ i = (i ≤ length text) × (leading is_trimmed (reverse text) + i ≡ length text + leading is_trimmed (reverse (take i text)))
+abbrev invariant-loop-i : tie.invariant-loop-i
+invariant-loop-i text i₀ i = (i ≤ length text) × (leading is_trimmed (reverse text) + i ≡ length text + leading is_trimmed (reverse (take i text)))
 
-abbrev decreases-loop : tie.decreases-loop
-decreases-loop text i₀ i = i
+abbrev decreases-loop-i : tie.decreases-loop-i
+decreases-loop-i text i₀ i = i
 
-pub trimmed-end-spec : {M : Type 1} → statement M
-trimmed-end-spec =
+pub trimmed_end_spec : {M : Type 1} → statement M
+trimmed_end_spec =
     tie.close
     (tie.spec
-    invariant-loop
-    decreases-loop
-    (λ c. (omega arith, omega (arith, ap (λ (l : List ℕ). leading is_trimmed (reverse l)) (take-length c.before.args.text.now))))
+    invariant-loop-i
+    decreases-loop-i
+    (λ c. (omega arith, omega (arith, ap (λ (l : List ℕ). leading is_trimmed (reverse l)) (take-length c.args.text.now))))
     (λ c. omega arith)
     (λ c. omega arith)
     (λ c κs. search rules)
-    (λ c. let l : tie.In-loop invariant-loop decreases-loop = c.before.before.before in
-    let e = sym c.before.is-trimmed.ensures ∙ not-true c.before.is-trimmed.result c.if1.true in
-    omega (arith, trailing-stop is_trimmed l.before.before.before.args.text.now l.before.loop.i (omega arith) l.before.loop.invariant.0 e))
+    (λ c. let l : tie.In-loop-i invariant-loop-i decreases-loop-i = c.before.before.before in
+    let e = sym c.is_trimmed.ensures ∙ not-true c.is_trimmed.result c.if-not-is_trimmed.true-raw in
+    omega (arith, trailing-stop is_trimmed l.args.text.now l.loop-i.i (omega arith) l.loop-i.invariant.0 e))
     (λ c. omega arith)
     (λ c. omega arith)
-    (λ c. let l : tie.In-loop invariant-loop decreases-loop = c.before.before.before in
-    let e = sym c.before.is-trimmed.ensures ∙ not-false c.before.is-trimmed.result c.if1.false in
-    (omega arith, omega (arith, trailing-more is_trimmed l.before.before.before.args.text.now l.before.loop.i (omega arith) l.before.loop.invariant.0 e)))
+    (λ c. let l : tie.In-loop-i invariant-loop-i decreases-loop-i = c.before.before.before in
+    let e = sym c.is_trimmed.ensures ∙ not-false c.is_trimmed.result c.if-not-is_trimmed.false-raw in
+    (omega arith, omega (arith, trailing-more is_trimmed l.args.text.now l.loop-i.i (omega arith) l.loop-i.invariant.0 e)))
     (λ c. omega arith))

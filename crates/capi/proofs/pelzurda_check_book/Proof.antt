@@ -7,17 +7,17 @@ use Rattle.coded.specs.Coded.{coded_yes}
 use Rattle.capi.proofs.pelzurda_check_book.Statement.{statement}
 use Rattle.capi.proofs.pelzurda_check_book.Tie as tie
 
-valid : tie.Need-returns
+valid : tie.Need-returns-in-Valid
 valid c =
-    let k : tie.After-check-book = c.before.before in
-    ap (λ a. coded_yes (book_gives a)) (sym c.enum_told.given.1) ∙ ap coded_yes k.check-book.ensures
+    let k : tie.After-check_book = c.before in
+    ap (λ a. coded_yes (book_gives a)) (sym c.in-Valid.is) ∙ ap coded_yes k.check_book.ensures
 
-refused : tie.Need-returns-2
+refused : tie.Need-returns-in-Refused
 refused c =
-    let k : tie.After-check-book = c.before.before.before.before in
-    c.code_of_lem.ensures ∙ ap (λ a. coded_yes (book_gives a)) (sym c.before.before.refused.given.1) ∙ ap coded_yes k.check-book.ensures
+    let k : tie.After-check_book = c.before.before in
+    c.code_of_lem.ensures ∙ ap (λ a. coded_yes (book_gives a)) (sym c.in-Refused.is) ∙ ap coded_yes k.check_book.ensures
 
-pub pelzurda-check-book-spec : {M : Type 1} → statement M
-pelzurda-check-book-spec =
+pub pelzurda_check_book_spec : {M : Type 1} → statement M
+pelzurda_check_book_spec =
     tie.close
     (tie.spec (λ c κs. search rules) (λ c. search rules) (λ c. search rules) (λ c κs. search rules) valid refused)

@@ -7,20 +7,20 @@ use Rattle.coded.specs.Coded.{coded}
 use Rattle.capi.proofs.pelzurda_copy.Statement.{statement}
 use Rattle.capi.proofs.pelzurda_copy.Tie as tie
 
-copied : tie.Need-returns
+copied : tie.Need-returns-in-Copied
 copied c =
-    let k : tie.After-copy-content = c.before.before.before.before.before in
-    let e = k.copy-content.ensures in
-    (ap (λ a. coded (copy_gives a)) (sym c.before.length.given.1) ∙ ap (λ x. coded x.answer) e, ap (λ x. x.copy) e)
+    let k : tie.After-copy_content = c.before.before.before in
+    let e = k.copy_content.ensures in
+    (ap (λ a. coded (copy_gives a)) (sym c.in-Copied.is) ∙ ap (λ x. coded x.answer) e, ap (λ x. x.copy-1) e)
 
-refused : tie.Need-returns-2
+refused : tie.Need-returns-in-Refused
 refused c =
-    let k : tie.After-copy-content = c.before.before.before.before.before.before in
-    let e = k.copy-content.ensures in
-    (c.code_of_lem.ensures ∙ ap (λ a. coded (copy_gives a)) (sym c.before.before.refused.given.1) ∙ ap (λ x. coded x.answer) e, ap (λ x. x.copy) e)
+    let k : tie.After-copy_content = c.before.before.before.before in
+    let e = k.copy_content.ensures in
+    (c.code_of_lem.ensures ∙ ap (λ a. coded (copy_gives a)) (sym c.in-Refused.is) ∙ ap (λ x. coded x.answer) e, ap (λ x. x.copy-1) e)
 
-pub pelzurda-copy-spec : {M : Type 1} → statement M
-pelzurda-copy-spec =
+pub pelzurda_copy_spec : {M : Type 1} → statement M
+pelzurda_copy_spec =
     tie.close
     (tie.spec
     (λ c κs. search rules)

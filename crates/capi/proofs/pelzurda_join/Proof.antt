@@ -8,27 +8,27 @@ use Rattle.coded.specs.Coded.{coded, language_of, prefix_of}
 use Rattle.capi.proofs.pelzurda_join.Statement.{statement}
 use Rattle.capi.proofs.pelzurda_join.Tie as tie
 
-call : (k : tie.After-join-line) →
-    let a = k.before.before.before.before.before.before.before.before.args in let r = k.join-line in
+call : (k : tie.After-join_line) →
+    let a = k.args in let r = k.join_line in
     ◌≡◌ {A = JoinCall} (record { answer = join_gives r.result; text = r.new.1.1.1.0; map = r.new.1.1.1.1.0 })
     (join_call (language_of a.language) (prefix_of a.prefix) a.line.now (length a.text.now) (length a.map.now))
 call k =
-    let p : tie.After-prefix-of = k.before.before.before in
-    rw (p.before.language-of.ensures, p.prefix-of.ensures) at k.join-line.ensures
+    let p : tie.After-prefix_of = k.before.before.before in
+    rw (p.language_of.ensures, p.prefix_of.ensures) at k.join_line.ensures
 
-joined : tie.Need-returns
+joined : tie.Need-returns-in-Joined
 joined c =
-    let e = call c.before.before.before.before.before.before.before in
-    (ap (λ a. coded (join_gives a)) (sym c.before.length.given.1) ∙ ap (λ x. coded x.answer) e, (ap (λ x. x.text) e, ap (λ x. x.map) e))
+    let e = call c.before.before.before.before.before in
+    (ap (λ a. coded (join_gives a)) (sym c.in-Joined.is) ∙ ap (λ x. coded x.answer) e, (ap (λ x. x.text-1) e, ap (λ x. x.map-1) e))
 
-refused : tie.Need-returns-2
+refused : tie.Need-returns-in-Refused
 refused c =
-    let e = call c.before.before.before.before.before.before.before.before in
-    let r = ap (λ a. coded (join_gives a)) (sym c.before.before.refused.given.1) in
-    (c.code_of_lem.ensures ∙ r ∙ ap (λ x. coded x.answer) e, (ap (λ x. x.text) e, ap (λ x. x.map) e))
+    let e = call c.before.before.before.before.before.before in
+    let r = ap (λ a. coded (join_gives a)) (sym c.in-Refused.is) in
+    (c.code_of_lem.ensures ∙ r ∙ ap (λ x. coded x.answer) e, (ap (λ x. x.text-1) e, ap (λ x. x.map-1) e))
 
-pub pelzurda-join-spec : {M : Type 1} → statement M
-pelzurda-join-spec =
+pub pelzurda_join_spec : {M : Type 1} → statement M
+pelzurda_join_spec =
     tie.close
     (tie.spec
     (λ c κs. search rules)

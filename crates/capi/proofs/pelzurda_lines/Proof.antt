@@ -13,19 +13,19 @@ use Rattle.capi.proofs.pelzurda_lines.Tie as tie
 
 returns : tie.Need-returns
 returns c =
-    let a = c.before.before.before.before.before.before.before.before.before.before.before.before.before.before.before.before.before.before.before.before.before.before.before.before.before.before.before.before.before.args in
-    let k : tie.After-answer-lines = c.before.before.before.before.before.before.before.before.before.before.before.before.before.before in
-    let p : tie.After-prefix-of = k.before.before.before.before.before in
-    let r = k.answer-lines in
-    let texts = cleared-all r.new.1.1.1.1.1.1.1.0 c.before.before.before.before.before.before.before.clear-bytes.new.0 (length a.text.now) c.before.before.before.before.before.before.before.clear-bytes.ensures r.auto.1.1.1.1.1.1.1.0 in
-    let maps = cleared-all r.new.1.1.1.1.1.1.1.1.0 c.before.before.before.clear-words.new.0 (length a.map.now) c.before.before.before.clear-words.ensures r.auto.1.1.1.1.1.1.1.1.0 in
+    let a = c.args in
+    let k : tie.After-answer_lines = c.before.before.before.before.before.before.before.before.before.before.before.before.before.before in
+    let p : tie.After-prefix_of-sought = k.before.before.before.before.before in
+    let r = k.answer_lines in
+    let texts = cleared-all r.new.1.1.1.1.1.1.1.0 c.clear_bytes.new.0 (length a.text.now) c.clear_bytes.ensures r.auto.1.1.1.1.1.1.1.0 in
+    let maps = cleared-all r.new.1.1.1.1.1.1.1.1.0 c.clear_words.new.0 (length a.map.now) c.clear_words.ensures r.auto.1.1.1.1.1.1.1.1.0 in
     let count : c.lesser.result ≡ min (length a.ends.now) (length a.answers.now) = rw r.auto.1.1.1.1.1.1.1.1.1.1.0 at c.lesser.ensures in
     let answers : r.new.1.1.1.1.1.1.1.1.1.1.0 ≡ answers_from (line_between (language_of a.language) (prefix_of a.prefix) a.book.now a.lines.now (length a.text.now) (length a.map.now) a.slots) no_line (length a.lines.now) (length a.answers.now) 0 a.ends.now
-    = rw (p.before.language-of.ensures, p.prefix-of.ensures) at r.ensures in
+    = rw (p.language_of-spoken.ensures, p.prefix_of-sought.ensures) at r.ensures in
     rw (texts, maps, count, answers) refl
 
-pub pelzurda-lines-spec : {M : Type 1} → statement M
-pelzurda-lines-spec =
+pub pelzurda_lines_spec : {M : Type 1} → statement M
+pelzurda_lines_spec =
     tie.close
     (tie.spec
     (λ c. search rules)

@@ -7,19 +7,19 @@ use Rattle.coded.specs.Coded.{coded_yes, span_ends}
 use Rattle.capi.proofs.pelzurda_map_back.Statement.{statement}
 use Rattle.capi.proofs.pelzurda_map_back.Tie as tie
 
-found : tie.Need-returns
+found : tie.Need-returns-in-Found
 found c =
-    let k : tie.After-map-back = c.before.before.before.before in
-    let e = ap span_gives (sym c.before.before.found.given.1) ∙ k.map_back.ensures in
+    let k : tie.After-map_back = c.before.before in
+    let e = ap span_gives (sym c.in-Found.is) ∙ k.map_back.ensures in
     (ap coded_yes e, ap span_ends e)
 
-refused : tie.Need-returns-2
+refused : tie.Need-returns-in-Refused
 refused c =
-    let k : tie.After-map-back = c.before.before.before.before.before in
-    let e = ap span_gives (sym c.before.before.before.refused.given.1) ∙ k.map_back.ensures in
+    let k : tie.After-map_back = c.before.before.before in
+    let e = ap span_gives (sym c.in-Refused.is) ∙ k.map_back.ensures in
     (c.code_of_lem.ensures ∙ ap coded_yes e, ap span_ends e)
 
-pub pelzurda-map-back-spec : {M : Type 1} → statement M
-pelzurda-map-back-spec =
+pub pelzurda_map_back_spec : {M : Type 1} → statement M
+pelzurda_map_back_spec =
     tie.close
     (tie.spec (λ c κs. search rules) (λ c. search rules) (λ c. search rules) (λ c κs. search rules) found refused)

@@ -10,13 +10,13 @@ use Rattle.capi.proofs.pelzurda_sequences.Tie as tie
 
 returns : tie.Need-returns
 returns c =
-    let a = c.before.before.before.before.before.before.before.before.before.before.before.args in
-    let r = c.before.before.answer-sequences in
+    let a = c.args in
+    let r = c.answer_sequences in
     let count : c.lesser.result ≡ min (length a.ends.now) (length a.answers.now) = rw r.auto.1.1.1.1.1.1.0 at c.lesser.ensures in
     rw (count, r.ensures) refl
 
-pub pelzurda-sequences-spec : {M : Type 1} → statement M
-pelzurda-sequences-spec =
+pub pelzurda_sequences_spec : {M : Type 1} → statement M
+pelzurda_sequences_spec =
     tie.close
     (tie.spec
     (λ c. search rules)

@@ -8,25 +8,25 @@ use Rattle.coded.specs.Coded.{coded, is_set, language_of, separator_of}
 use Rattle.capi.proofs.pelzurda_split.Statement.{statement}
 use Rattle.capi.proofs.pelzurda_split.Tie as tie
 
-call : (k : tie.After-split-top-level) →
-    let a = k.before.before.before.before.before.before.args in let r = k.split-top-level in
+call : (k : tie.After-split_top_level) →
+    let a = k.args in let r = k.split_top_level in
     ◌≡◌ {A = SplitCall} (record { answer = split_answer r.result; items = r.new.1.1.1.1.0 })
     (split_call a.text.now (language_of a.language) (separator_of a.colon) (is_set a.angles) (length a.items.now))
-call k = rw (k.before.before.before.language-of.ensures, k.before.before.separator-of.ensures) at k.split-top-level.ensures
+call k = rw (k.language_of-asked.ensures, k.separator_of.ensures) at k.split_top_level.ensures
 
-items : tie.Need-returns
+items : tie.Need-returns-in-Items
 items c =
-    let e = call c.before.before.before.before.before in
-    (ap (λ a. coded (split_answer a)) (sym c.before.count.given.1) ∙ ap (λ x. coded x.answer) e, ap (λ x. x.items) e)
+    let e = call c.before.before.before in
+    (ap (λ a. coded (split_answer a)) (sym c.in-Items.is) ∙ ap (λ x. coded x.answer) e, ap (λ x. x.items-1) e)
 
-refused : tie.Need-returns-2
+refused : tie.Need-returns-in-Refused
 refused c =
-    let e = call c.before.before.before.before.before.before in
-    let r = ap (λ a. coded (split_answer a)) (sym c.before.before.refused.given.1) in
-    (c.code_of_lem.ensures ∙ r ∙ ap (λ x. coded x.answer) e, ap (λ x. x.items) e)
+    let e = call c.before.before.before.before in
+    let r = ap (λ a. coded (split_answer a)) (sym c.in-Refused.is) in
+    (c.code_of_lem.ensures ∙ r ∙ ap (λ x. coded x.answer) e, ap (λ x. x.items-1) e)
 
-pub pelzurda-split-spec : {M : Type 1} → statement M
-pelzurda-split-spec =
+pub pelzurda_split_spec : {M : Type 1} → statement M
+pelzurda_split_spec =
     tie.close
     (tie.spec
     (λ c κs. search rules)

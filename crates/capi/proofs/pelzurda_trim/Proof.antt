@@ -6,7 +6,7 @@ use Rattle.capi.proofs.pelzurda_trim.Statement.{statement}
 use Rattle.capi.proofs.pelzurda_trim.Tie as tie
 
 returns : tie.Need-returns
-returns c = let e = c.before.trim-range.ensures.0 in rw e (refl, refl)
+returns c = let e = c.trim_range-left.ensures.0 in rw e (refl, refl)
 
-pub pelzurda-trim-spec : {M : Type 1} → statement M
-pelzurda-trim-spec = tie.close (tie.spec (λ c κs. search rules) (λ c. search rules) returns)
+pub pelzurda_trim_spec : {M : Type 1} → statement M
+pelzurda_trim_spec = tie.close (tie.spec (λ c κs. search rules) (λ c. search rules) returns)

@@ -13,11 +13,11 @@ use Rattle.coded.proofs.code_of.Tie as tie
 place-fits : (place : ℕ) → place_code place < 4294967296
 place-fits place = by_cases (ltb place 4294967296) (λ t. rw t (ltb-true place 4294967296 t)) (λ f. rw f (omega arith))
 
-fits : tie.Need-overflow-add-result-2
-fits c = omega (arith, c.place-code.ensures, place-fits c.before.before.args.refused.place)
+fits : tie.Need-overflow_add-result-2
+fits c = omega (arith, c.place_code.ensures, place-fits c.args.refused.place)
 
-pub code-of-spec : {M : Type 1} → statement M
-code-of-spec =
+pub code_of_spec : {M : Type 1} → statement M
+code_of_spec =
     tie.close
     (tie.spec
     (λ c κs. search rules)

@@ -3,7 +3,7 @@
 use Rattle.coded.proofs.language_of.Statement.{statement}
 use Rattle.coded.proofs.language_of.Tie as tie
 
-pub language-of-spec : {M : Type 1} → statement M
-language-of-spec =
+pub language_of_spec : {M : Type 1} → statement M
+language_of_spec =
     tie.close
-    (tie.spec (λ c. simp c.if1.true) (λ c. simp (c.before.if1.false, c.if2.true)) (λ c. simp (c.before.if1.false, c.if2.false)))
+    (tie.spec (λ c. simp c.if-free.true-raw) (λ c. simp (c.if-free.false-raw, c.if-fixed.true-raw)) (λ c. simp (c.if-free.false-raw, c.if-fixed.false-raw)))

@@ -6,15 +6,15 @@ use borrow.Author.Tests.{lt-ltb, le-ltb}
 use Rattle.coded.proofs.place_code.Statement.{statement}
 use Rattle.coded.proofs.place_code.Tie as tie
 
-returns : tie.Need-returns
+returns : tie.Need-returns-then-place-lt4294967296
 returns c =
-    let held : c.before.args.place < 4294967296 = omega (arith, c.if1.true) in
+    let held : c.args.place < 4294967296 = omega (arith, c.if-place-lt4294967296.true) in
     simp (lt-ltb _ _ held)
 
-returns-2 : tie.Need-returns-2
+returns-2 : tie.Need-returns-else-place-lt4294967296
 returns-2 c =
-    let beyond : 4294967296 ≤ c.before.args.place = omega (arith, c.if1.false) in
+    let beyond : 4294967296 ≤ c.args.place = omega (arith, c.if-place-lt4294967296.false) in
     simp (le-ltb _ _ beyond)
 
-pub place-code-spec : {M : Type 1} → statement M
-place-code-spec = tie.close (tie.spec returns returns-2)
+pub place_code_spec : {M : Type 1} → statement M
+place_code_spec = tie.close (tie.spec returns returns-2)

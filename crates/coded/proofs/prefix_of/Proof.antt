@@ -3,5 +3,5 @@
 use Rattle.coded.proofs.prefix_of.Statement.{statement}
 use Rattle.coded.proofs.prefix_of.Tie as tie
 
-pub prefix-of-spec : {M : Type 1} → statement M
-prefix-of-spec = tie.close (tie.spec (λ c. simp c.if1.true) (λ c. simp c.if1.false))
+pub prefix_of_spec : {M : Type 1} → statement M
+prefix_of_spec = tie.close (tie.spec (λ c. simp c.if-acc.true-raw) (λ c. simp c.if-acc.false-raw))

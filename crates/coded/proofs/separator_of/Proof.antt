@@ -3,5 +3,5 @@
 use Rattle.coded.proofs.separator_of.Statement.{statement}
 use Rattle.coded.proofs.separator_of.Tie as tie
 
-pub separator-of-spec : {M : Type 1} → statement M
-separator-of-spec = tie.close (tie.spec (λ c. simp c.if1.true) (λ c. simp c.if1.false))
+pub separator_of_spec : {M : Type 1} → statement M
+separator_of_spec = tie.close (tie.spec (λ c. simp c.if-set.true-raw) (λ c. simp c.if-set.false-raw))

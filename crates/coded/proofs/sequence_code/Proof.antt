@@ -5,12 +5,12 @@ use borrow.Author.Rules.{rules}
 use Rattle.coded.proofs.sequence_code.Statement.{statement}
 use Rattle.coded.proofs.sequence_code.Tie as tie
 
-pub sequence-code-spec : {M : Type 1} → statement M
-sequence-code-spec =
+pub sequence_code_spec : {M : Type 1} → statement M
+sequence_code_spec =
     tie.close
     (tie.spec
     (λ c. search rules)
     (λ c. search rules)
     (λ c κs. search rules)
-    (λ c. rw c.before.before.answer.given.1 (refl, refl))
-    (λ c. rw c.before.before.before.answer2.given.1 (c.code_of_lem.ensures, refl)))
+    (λ c. rw c.in-Read.is (refl, refl))
+    (λ c. rw c.in-Refused.is (c.code_of_lem.ensures, refl)))

@@ -6,4 +6,4 @@ use Rattle.directive.proofs.finish.Tie as tie
 
 pub finish_spec : {M : Type 1} → statement M
 finish_spec =
-    tie.close (tie.spec (λ c. search rules) (λ c. search rules) (λ c. rw c.before.found.given.1) (λ c. rw c.enum_told.given.1))
+    tie.close (tie.spec (λ c. search rules) (λ c. search rules) (λ c. rw c.in-Named.is) (λ c. rw c.in-Unnamed.is))

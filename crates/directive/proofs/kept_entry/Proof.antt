@@ -8,11 +8,11 @@ use borrow.Author.Tests.{le-leb, lt-leb}
 use Rattle.directive.proofs.kept_entry.Statement.{statement}
 use Rattle.directive.proofs.kept_entry.Tie as tie
 
-pub kept-entry-spec : {M : Type 1} → statement M
-kept-entry-spec =
+pub kept_entry_spec : {M : Type 1} → statement M
+kept_entry_spec =
     tie.close
     (tie.spec
-    (λ c. rw (lt-leb _ _ c.if1.true))
-    (λ c. let a = c.before.before.before.before.before.args in sym (length-take-le a.len a.buffer.now (omega arith)))
+    (λ c. rw (lt-leb _ _ c.if-len-gt512.true))
+    (λ c. let a = c.args in sym (length-take-le a.len a.buffer.now (omega arith)))
     (λ c κs. search rules)
-    (λ c. rw (le-leb _ _ c.before.before.if1.false) c.entry_of.ensures))
+    (λ c. rw (le-leb _ _ c.if-len-gt512.false) c.entry_of.ensures))

@@ -17,31 +17,31 @@ laid s = rw s.requires.1.0 (form-directives s.args.book.now s.requires.0)
 
 search-requires : tie.Need-search-requires
 search-requires c κs =
-    let m : tie.After-skip = c.before.before.before.before in
+    let m : tie.After-skip = c.before.before in
     let s : tie.Start = m.before.before.before.before in
-    let i = subst (Inside s.args.at (length s.args.text.now)) c.before.before.p2.given.1 m.skip.ensures.1 in
+    let i = subst (Inside s.args.at (length s.args.text.now)) c.in-Past.is m.skip.ensures.1 in
     (s.requires.1.0, (laid s, (s.requires.1.1.0, (i.0, i.1, refl))))
 
-returns : tie.Need-returns
+returns : tie.Need-returns-in-OpenAt
 returns c =
-    let m : tie.After-skip = c.before.before.before in
+    let m : tie.After-skip = c.before in
     let s : tie.Start = m.before.before.before.before in (
-      sym (name-open s.args.header s.args.book.now s.args.text.now s.args.at c.before.p.given.0.0 s.requires.1.0 (sym m.skip.ensures.0 ∙ c.before.p.given.1)),
-      subst (Inside s.args.at (length s.args.text.now)) c.before.p.given.1 m.skip.ensures.1,
+      sym (name-open s.args.header s.args.book.now s.args.text.now s.args.at c.in-OpenAt.p s.requires.1.0 (sym m.skip.ensures.0 ∙ c.in-OpenAt.is)),
+      subst (Inside s.args.at (length s.args.text.now)) c.in-OpenAt.is m.skip.ensures.1,
     )
 
-returns-2 : tie.Need-returns-2
+returns-2 : tie.Need-returns-in-Past
 returns-2 c =
-    let m : tie.After-skip = c.before.before.before.before.before.before in
+    let m : tie.After-skip = c.before.before.before.before in
     let s : tie.Start = m.before.before.before.before in
     let t = c.before.before.before.before in (
-      c.before.search.ensures.0
-          ∙ sym (name-past s.args.header s.args.book.now s.args.text.now s.args.at t.p2.given.0.0 s.requires.1.0 (sym m.skip.ensures.0 ∙ t.p2.given.1)),
-      c.before.search.ensures.1,
+      c.search.ensures.0
+          ∙ sym (name-past s.args.header s.args.book.now s.args.text.now s.args.at t.in-Past.p s.requires.1.0 (sym m.skip.ensures.0 ∙ t.in-Past.is)),
+      c.search.ensures.1,
     )
 
-pub lex-name-spec : {M : Type 1} → statement M
-lex-name-spec =
+pub lex_name_spec : {M : Type 1} → statement M
+lex_name_spec =
     tie.close
     (tie.spec
     (λ c κs. search rules)

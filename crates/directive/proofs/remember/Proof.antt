@@ -4,6 +4,6 @@ use borrow.Author.Rules.{rules}
 use Rattle.directive.proofs.remember.Statement.{statement}
 use Rattle.directive.proofs.remember.Tie as tie
 
-pub remember-spec : {M : Type 1} → statement M
-remember-spec =
-    tie.close (tie.spec (λ c. search rules) (λ c. search rules) (λ c. rw c.before.entry.given.1) (λ c. rw c.enum_told.given.1))
+pub remember_spec : {M : Type 1} → statement M
+remember_spec =
+    tie.close (tie.spec (λ c. search rules) (λ c. search rules) (λ c. rw c.in-At.is) (λ c. rw c.in-Nothing.is))

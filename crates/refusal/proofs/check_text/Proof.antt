@@ -8,14 +8,14 @@ use Rattle.refusal.specs.Verdict.{text_verdict}
 use Rattle.refusal.proofs.check_text.Statement.{statement}
 use Rattle.refusal.proofs.check_text.Tie as tie
 
-pub check-text-spec : {M : Type 1} → statement M
+pub check_text_spec : {M : Type 1} → statement M
 unfolding text_verdict
-check-text-spec =
+check_text_spec =
     tie.close
     (tie.spec
-    (λ c. simp (lt-ltb _ _ c.if1.true))
+    (λ c. simp (lt-ltb _ _ c.if-text-gt-MAX_LENGTH.true))
     (λ c κs. search rules)
     (λ c. search rules)
     (λ c. search rules)
-    (λ c. let e = sym c.before.before.first-high.ensures ∙ ap found_at c.enum_told.given.1 in simp (le-ltb _ _ c.before.before.before.if1.false, e))
-    (λ c. let e = sym c.before.before.before.first-high.ensures ∙ ap found_at c.before.place.given.1 in simp (le-ltb _ _ c.before.before.before.before.if1.false, e)))
+    (λ c. let e = sym c.first_high.ensures ∙ ap found_at c.in-Nothing.is in simp (le-ltb _ _ c.if-text-gt-MAX_LENGTH.false, e))
+    (λ c. let e = sym c.first_high.ensures ∙ ap found_at c.in-At.is in simp (le-ltb _ _ c.if-text-gt-MAX_LENGTH.false, e)))

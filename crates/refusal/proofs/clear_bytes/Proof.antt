@@ -8,22 +8,22 @@ use Rattle.refusal.proofs.Clearing.{Clearing, clears, cleared}
 use Rattle.refusal.proofs.clear_bytes.Statement.{statement}
 use Rattle.refusal.proofs.clear_bytes.Tie as tie
 
-abbrev invariant-loop : tie.invariant-loop
-invariant-loop slots₀ from i₀ slots i = Clearing slots₀ from slots i
+abbrev invariant-loop-i : tie.invariant-loop-i
+invariant-loop-i slots₀ from i₀ slots i = Clearing slots₀ from slots i
 
-abbrev decreases-loop : tie.decreases-loop
-decreases-loop slots₀ from i₀ slots i = length slots₀ - i
+abbrev decreases-loop-i : tie.decreases-loop-i
+decreases-loop-i slots₀ from i₀ slots i = length slots₀ - i
 
-pub clear-bytes-spec : {M : Type 1} → statement M
-clear-bytes-spec =
+pub clear_bytes_spec : {M : Type 1} → statement M
+clear_bytes_spec =
     tie.close
     (tie.spec
-    invariant-loop
-    decreases-loop
+    invariant-loop-i
+    decreases-loop-i
     (λ c. (c.requires, refl, refl))
     (λ c. omega arith)
     (λ c. omega arith)
     (λ c. omega arith)
-    (λ c. let l = c.before in clears l.before.args.slots.now l.before.args.from l.loop.slots l.loop.i l.loop.invariant c.loop-test.true)
+    (λ c. let l = c.before in clears l.args.slots.now l.args.from l.loop-i.slots l.loop-i.i l.loop-i.invariant c.loop-i-test.true)
     (λ c. omega arith)
-    (λ c. let l = c.before in cleared l.before.args.slots.now l.before.args.from l.loop.slots l.loop.i l.loop.invariant c.loop-test.false))
+    (λ c. let l = c.before in cleared l.args.slots.now l.args.from l.loop-i.slots l.loop-i.i l.loop-i.invariant c.loop-i-test.false))

@@ -4,27 +4,27 @@ use borrow.Author.Rules.{rules}
 use Rattle.refusal.proofs.number.Statement.{statement}
 use Rattle.refusal.proofs.number.Tie as tie
 
-pub number-spec : {M : Type 1} → statement M
-number-spec =
+pub number_spec : {M : Type 1} → statement M
+number_spec =
     tie.close
     (tie.spec
     (λ c. search rules) (λ c. search rules) (λ c. search rules) (λ c. search rules) (λ c. search rules) (λ c. search rules) (λ c. search rules) (λ c. search rules) (λ c. search rules) (λ c. search rules) (λ c. search rules) (λ c. search rules) (λ c. search rules) (λ c. search rules) (λ c. search rules) (λ c. search rules) (λ c. search rules) (λ c. search rules) (λ c. search rules)
-    (λ c. rw c.enum_told.given.1)
-    (λ c. rw c.enum-told2.given.1)
-    (λ c. rw c.enum-told3.given.1)
-    (λ c. rw c.enum-told4.given.1)
-    (λ c. rw c.enum-told5.given.1)
-    (λ c. rw c.enum-told6.given.1)
-    (λ c. rw c.enum-told7.given.1)
-    (λ c. rw c.enum-told8.given.1)
-    (λ c. rw c.enum-told9.given.1)
-    (λ c. rw c.enum-told10.given.1)
-    (λ c. rw c.enum-told11.given.1)
-    (λ c. rw c.enum-told12.given.1)
-    (λ c. rw c.enum-told13.given.1)
-    (λ c. rw c.enum-told14.given.1)
-    (λ c. rw c.enum-told15.given.1)
-    (λ c. rw c.enum-told16.given.1)
-    (λ c. rw c.enum-told17.given.1)
-    (λ c. rw c.enum-told18.given.1)
-    (λ c. rw c.enum-told19.given.1))
+    (λ c. rw c.in-TooLong.is)
+    (λ c. rw c.in-HighByte.is)
+    (λ c. rw c.in-ShortBuffer.is)
+    (λ c. rw c.in-WrongBook.is)
+    (λ c. rw c.in-WrongLanguage.is)
+    (λ c. rw c.in-InvalidLine.is)
+    (λ c. rw c.in-NoOpening.is)
+    (λ c. rw c.in-UnclosedComment.is)
+    (λ c. rw c.in-NoDirective.is)
+    (λ c. rw c.in-NoClause.is)
+    (λ c. rw c.in-NoParenthesis.is)
+    (λ c. rw c.in-Unmatched.is)
+    (λ c. rw c.in-TooDeep.is)
+    (λ c. rw c.in-NoSlot.is)
+    (λ c. rw c.in-EmptyItem.is)
+    (λ c. rw c.in-UnclosedQuote.is)
+    (λ c. rw c.in-WrongClosing.is)
+    (λ c. rw c.in-UnclosedBracket.is)
+    (λ c. rw c.in-BadSpan.is))

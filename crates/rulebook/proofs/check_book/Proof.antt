@@ -5,5 +5,5 @@ use Rattle.rulebook.proofs.Indexes.{fresh}
 use Rattle.rulebook.proofs.check_book.Statement.{statement}
 use Rattle.rulebook.proofs.check_book.Tie as tie
 
-pub check-book-spec : {M : Type 1} → statement M
-check-book-spec = tie.close (tie.spec (λ c. search rules) (λ c κs. fresh) (λ c. c.before.checked.ensures.0.judged))
+pub check_book_spec : {M : Type 1} → statement M
+check_book_spec = tie.close (tie.spec (λ c. search rules) (λ c κs. fresh) (λ c. c.checked-checked.ensures.0.judged))

@@ -12,37 +12,37 @@ use Rattle.rulebook.proofs.checked.Statement.{statement}
 use Rattle.rulebook.proofs.checked.Tie as tie
 
 -- no bad byte is found
-form : (t : tie.After-enum-told) → HasForm t.before.before.before.before.before.args.book.now
-form t = sym t.before.before.first-bad.ensures ∙ ap found_at t.enum_told.given.1
+form : (t : tie.In-Nothing) → HasForm t.args.book.now
+form t = sym t.first_bad.ensures ∙ ap found_at t.in-Nothing.is
 
-first-repeat-requires : tie.Need-first-repeat-requires
-first-repeat-requires c κs = (form c.before, c.before.before.before.before.before.before.requires)
+first-repeat-requires : tie.Need-first_repeat-repeats-requires
+first-repeat-requires c κs = (form c.before, c.requires)
 
-read-header-requires : tie.Need-read-header-requires
+read-header-requires : tie.Need-read_header-requires
 read-header-requires c κs =
-    let r : tie.After-first-repeat = c.before.before.before.before in
-    (form r.before.before, r.first-repeat.ensures.1.1 (ap found_at c.enum-told2.given.1))
+    let r : tie.After-first_repeat-repeats = c.before.before.before in
+    (form r.before.before, r.first_repeat-repeats.ensures.1.1 (ap found_at c.in-Nothing-found.is))
 
-returns : tie.Need-returns
+returns : tie.Need-returns-in-At
 returns c =
-    let e : book_fault c.before.before.before.before.before.before.before.before.args.book.now ≡ some c.before.before.before.place.given.0.0 = fault-form _ _ (sym c.before.before.before.before.before.first-bad.ensures ∙ ap found_at c.before.before.before.place.given.1) in
-    (record { judged = c.before.refused.ensures ∙ call-refused _ _ e; known = λ h. absurd (some-none (sym e ∙ h)) }, faulty _ _ _ e)
+    let e : book_fault c.args.book.now ≡ some c.in-At.place = fault-form _ _ (sym c.first_bad.ensures ∙ ap found_at c.in-At.is) in
+    (record { judged = c.refused.ensures ∙ call-refused _ _ e; known = λ h. absurd (some-none (sym e ∙ h)) }, faulty _ _ _ e)
 
-returns-2 : tie.Need-returns-2
+returns-2 : tie.Need-returns-in-At-found
 returns-2 c =
-    let r : tie.After-first-repeat = c.before.before.before.before.before.before.before in
-    let p = c.before.before.before.found.given in
-    let e : book_fault r.before.before.before.before.before.before.before.args.book.now ≡ some p.0.0 = fault-repeat _ (form r.before.before) ∙ sym r.first-repeat.ensures.0 ∙ ap found_at p.1 in
-    (record { judged = c.before.refused2.ensures ∙ call-refused _ _ e; known = λ h. absurd (some-none (sym e ∙ h)) }, r.first-repeat.ensures.1.0)
+    let r : tie.After-first_repeat-repeats = c.before.before.before.before.before in
+    let p = c.found-1.given in
+    let e : book_fault r.args.book.now ≡ some p.0.0 = fault-repeat _ (form r.before.before) ∙ sym r.first_repeat-repeats.ensures.0 ∙ ap found_at p.1 in
+    (record { judged = c.refused-in-At-found.ensures ∙ call-refused _ _ e; known = λ h. absurd (some-none (sym e ∙ h)) }, r.first_repeat-repeats.ensures.1.0)
 
-returns-3 : tie.Need-returns-3
+returns-3 : tie.Need-returns-in-Nothing-found
 returns-3 c =
-    let r : tie.After-first-repeat = c.before.before.before.before.before in
-    let e : book_fault r.before.before.before.before.before.before.before.args.book.now ≡ none = fault-repeat _ (form r.before.before) ∙ sym r.first-repeat.ensures.0 ∙ ap found_at c.before.enum-told2.given.1 in
-    (record { judged = call-given _ e; known = λ h. c.read-header.ensures }, r.first-repeat.ensures.1.0)
+    let r : tie.After-first_repeat-repeats = c.before.before.before.before in
+    let e : book_fault r.args.book.now ≡ none = fault-repeat _ (form r.before.before) ∙ sym r.first_repeat-repeats.ensures.0 ∙ ap found_at c.in-Nothing-found.is in
+    (record { judged = call-given _ e; known = λ h. c.read_header.ensures }, r.first_repeat-repeats.ensures.1.0)
 
-pub checked-spec : {M : Type 1} → statement M
-checked-spec =
+pub checked_spec : {M : Type 1} → statement M
+checked_spec =
     tie.close
     (tie.spec
     (λ c κs. search rules)

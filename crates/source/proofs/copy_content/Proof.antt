@@ -11,32 +11,32 @@ use Rattle.source.proofs.copy_content.Statement.{statement}
 use Rattle.source.proofs.copy_content.Tie as tie
 
 -- where the content is copied: it fits, and so does what is written
-fine : (c : tie.After-enum-told) →
-    let a = c.before.before.before.before.before.args in
+fine : (c : tie.In-Fine) →
+    let a = c.args in
     length a.content.now ≤ length a.copy.now
-fine c = copy-fits _ _ (sym c.before.before.judge-copy.ensures ∙ c.enum_told.given.1)
+fine c = copy-fits _ _ (sym c.judge_copy-verdict.ensures ∙ c.in-Fine.is)
 
-size : (c : tie.After-copy-into) → c.copy-into.result ≤ length c.copy-into.new.1.0
+size : (c : tie.After-copy_into-n) → c.copy_into-n.result ≤ length c.copy_into-n.new.1.0
 size c = omega (arith, fine c.before.before)
 
-refused : tie.Need-returns
+refused : tie.Need-returns-in-Bad
 refused c =
-    let m : tie.After-clear-bytes = c.before.before in
-    let v : tie.After-verdict = m.before.before.before in
-    rw m.clear-bytes.ensures (sym (copy-bad _ _ _ (sym v.before.before.judge-copy.ensures ∙ v.verdict.given.1)))
+    let m : tie.After-clear_bytes = c.before.before in
+    let v : tie.In-Bad-2 = m.before.before.before in
+    rw m.clear_bytes.ensures (sym (copy-bad _ _ _ (sym v.judge_copy-verdict.ensures ∙ v.in-Bad.is)))
 
-copied : tie.Need-returns-2
+copied : tie.Need-returns-in-Fine
 copied c =
-    let m : tie.After-clear-bytes2 = c.before.before in
-    let k : tie.After-copy-into = m.before.before.before.before in
-    let t : tie.After-enum-told = k.before.before in
-    let r = k.copy-into in
-    let e = sym t.before.before.judge-copy.ensures ∙ t.enum_told.given.1 in
-    let copy = m.clear-bytes2.ensures ∙ padded-take 0 _ _ (size k) r.ensures.1.1 in
+    let m : tie.After-clear_bytes-in-Fine = c.before.before in
+    let k : tie.After-copy_into-n = m.before.before.before.before in
+    let t : tie.In-Fine = k.before.before in
+    let r = k.copy_into-n in
+    let e = sym t.judge_copy-verdict.ensures ∙ t.in-Fine.is in
+    let copy = m.clear_bytes-in-Fine.ensures ∙ padded-take 0 _ _ (size k) r.ensures.1.1 in
     rw (copy, r.auto.1.0, r.ensures.1.0) (sym (copy-fine _ _ e))
 
-pub copy-content-spec : {M : Type 1} → statement M
-copy-content-spec =
+pub copy_content_spec : {M : Type 1} → statement M
+copy_content_spec =
     tie.close
     (tie.spec
     (λ c κs. search rules)

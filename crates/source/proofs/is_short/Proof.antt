@@ -5,5 +5,5 @@ use borrow.Author.Rules.{rules}
 use Rattle.source.proofs.is_short.Statement.{statement}
 use Rattle.source.proofs.is_short.Tie as tie
 
-pub is-short-spec : {M : Type 1} → statement M
-is-short-spec = tie.close (tie.spec (λ c. search rules) (λ c. simp add-one))
+pub is_short_spec : {M : Type 1} → statement M
+is_short_spec = tie.close (tie.spec (λ c. search rules) (λ c. simp add-one))

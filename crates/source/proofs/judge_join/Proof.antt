@@ -7,40 +7,40 @@ use Rattle.source.specs.Verdicts.{join_verdict}
 use Rattle.source.proofs.judge_join.Statement.{statement}
 use Rattle.source.proofs.judge_join.Tie as tie
 
-returns : tie.Need-returns
+returns : tie.Need-returns-in-Bad
 unfolding join_verdict
-returns c = simp (sym c.before.before.before.check-text.ensures ∙ c.before.admitted.given.1)
+returns c = simp (sym c.check_text-admitted.ensures ∙ c.in-Bad.is)
 
-returns-2 : tie.Need-returns-2
+returns-2 : tie.Need-returns-then-is_short
 unfolding join_verdict
 returns-2 c =
-    let t : tie.After-enum-told = c.before.before in
-    simp (sym t.before.before.check-text.ensures ∙ t.enum_told.given.1, sym c.before.is-short.ensures ∙ c.if1.true)
+    let t : tie.In_default = c.before.before in
+    simp (sym t.check_text-admitted.ensures ∙ t.in_default.is, sym c.is_short.ensures ∙ c.if-is_short.true)
 
-returns-3 : tie.Need-returns-3
+returns-3 : tie.Need-returns-in-Nothing
 unfolding join_verdict
 returns-3 c =
-    let v : tie.After-validate-logical-line = c.before.before in
-    let t : tie.After-enum-told = v.before.before.before in
+    let v : tie.After-validate_logical_line = c.before in
+    let t : tie.In_default = v.before.before.before in
     simp (
-      sym t.before.before.check-text.ensures ∙ t.enum_told.given.1,
-      sym v.before.before.is-short.ensures ∙ v.before.if1.false,
-      sym v.validate-logical-line.ensures ∙ ap found_at c.enum-told2.given.1,
+      sym t.check_text-admitted.ensures ∙ t.in_default.is,
+      sym v.is_short.ensures ∙ v.if-is_short.false,
+      sym v.validate_logical_line.ensures ∙ ap found_at c.in-Nothing.is,
     )
 
-returns-4 : tie.Need-returns-4
+returns-4 : tie.Need-returns-in-At
 unfolding join_verdict
 returns-4 c =
-    let v : tie.After-validate-logical-line = c.before.before.before in
-    let t : tie.After-enum-told = v.before.before.before in
+    let v : tie.After-validate_logical_line = c.before in
+    let t : tie.In_default = v.before.before.before in
     simp (
-      sym t.before.before.check-text.ensures ∙ t.enum_told.given.1,
-      sym v.before.before.is-short.ensures ∙ v.before.if1.false,
-      sym v.validate-logical-line.ensures ∙ ap found_at c.before.place.given.1,
+      sym t.check_text-admitted.ensures ∙ t.in_default.is,
+      sym v.is_short.ensures ∙ v.if-is_short.false,
+      sym v.validate_logical_line.ensures ∙ ap found_at c.in-At.is,
     )
 
-pub judge-join-spec : {M : Type 1} → statement M
-judge-join-spec =
+pub judge_join_spec : {M : Type 1} → statement M
+judge_join_spec =
     tie.close
     (tie.spec
     (λ c κs. search rules)

@@ -12,33 +12,33 @@ use Rattle.validation.proofs.Lines.{code-stop, code-more, code-end}
 use Rattle.validation.proofs.code_end.Statement.{statement}
 use Rattle.validation.proofs.code_end.Tie as tie
 
-abbrev invariant-loop : tie.invariant-loop
-invariant-loop line from at₀ i₀ at i = (from ≤ i) × (i ≤ length line) × (i + code_length at (drop i line) ≡ from + code_length Outside (drop from line))
+abbrev invariant-loop-i : tie.invariant-loop-i
+invariant-loop-i line from at₀ i₀ at i = (from ≤ i) × (i ≤ length line) × (i + code_length at (drop i line) ≡ from + code_length Outside (drop from line))
 
-abbrev decreases-loop : tie.decreases-loop
-decreases-loop line from at₀ i₀ at i = length line - i
+abbrev decreases-loop-i : tie.decreases-loop-i
+decreases-loop-i line from at₀ i₀ at i = length line - i
 
-returns : tie.Need-returns invariant-loop decreases-loop
+returns : tie.Need-returns-then-comment invariant-loop-i decreases-loop-i
 returns c =
-    let l : tie.In-loop invariant-loop decreases-loop = c.before.before.before in
-    (rw (code-stop, l.loop-test.true, rw c.before.is-inside.ensures at c.if1.true, add-zero) at l.before.loop.invariant.2, omega arith)
+    let l : tie.In-loop-i invariant-loop-i decreases-loop-i = c.before.before.before in
+    (rw (code-stop, l.loop-i-test.true, rw c.is_inside.ensures at c.if-comment.true, add-zero) at l.loop-i.invariant.2, omega arith)
 
-loop-again : tie.Need-loop-preserved invariant-loop decreases-loop
+loop-again : tie.Need-loop-i-preserved invariant-loop-i decreases-loop-i
 loop-again c =
-    let l : tie.In-loop invariant-loop decreases-loop = c.before.before.before.before in
-    let s = l.before.before.before.args.line.now in
-    let m = code-more l.before.loop.at s l.before.loop.i l.loop-test.true (rw c.before.before.is-inside.ensures at c.before.if1.false) in
-    (omega arith, omega arith, rw c.after-byte.ensures (omega (arith, m)))
+    let l : tie.In-loop-i invariant-loop-i decreases-loop-i = c.before.before.before.before in
+    let s = l.args.line.now in
+    let m = code-more l.loop-i.at s l.loop-i.i l.loop-i-test.true (rw c.is_inside.ensures at c.if-comment.false) in
+    (omega arith, omega arith, rw c.after_byte-at.ensures (omega (arith, m)))
 
-returns-2 : tie.Need-returns-2 invariant-loop decreases-loop
-returns-2 c = (rw (code-end, c.loop-test.false, add-zero) at c.before.loop.invariant.2, omega arith)
+returns-2 : tie.Need-returns invariant-loop-i decreases-loop-i
+returns-2 c = (rw (code-end, c.loop-i-test.false, add-zero) at c.loop-i.invariant.2, omega arith)
 
-pub code-end-spec : {M : Type 1} → statement M
-code-end-spec =
+pub code_end_spec : {M : Type 1} → statement M
+code_end_spec =
     tie.close
     (tie.spec
-    invariant-loop
-    decreases-loop
+    invariant-loop-i
+    decreases-loop-i
     (λ c. (omega arith, omega arith, refl))
     (λ c. omega arith)
     (λ c κs. search rules)

@@ -4,8 +4,8 @@ use borrow.Author.Rules.{rules}
 use Rattle.validation.proofs.continued.Statement.{statement}
 use Rattle.validation.proofs.continued.Tie as tie
 
-pub continued-spec : {M : Type 1} → statement M
-continued-spec =
+pub continued_spec : {M : Type 1} → statement M
+continued_spec =
     tie.close
     (tie.spec
     (λ c. search rules)
@@ -14,6 +14,6 @@ continued-spec =
     (λ c κs. search rules)
     (λ c. search rules)
     (λ c κs. search rules)
-    (λ c. rw c.before.enum_told.given.1 c.ends-in-backslash.ensures)
-    (λ c. rw c.before.enum-told2.given.1 c.continued-f.ensures)
-    (λ c. rw c.before.enum-told3.given.1 c.continued-f2.ensures))
+    (λ c. rw c.in-C.is c.ends_in_backslash.ensures)
+    (λ c. rw c.in-FortranFree.is c.continued_f.ensures)
+    (λ c. rw c.in-FortranFixed.is c.continued_f-in-FortranFixed.ensures))

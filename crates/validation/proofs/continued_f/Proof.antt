@@ -9,15 +9,15 @@ use Rattle.validation.proofs.continued_f.Tie as tie
 
 returns : tie.Need-returns
 returns c =
-    let e : tie.After-code-end = c.before.before in
-    let n = e.before.sentinel-ended in
-    let r = e.before.before.run-end in
-    let a = e.before.before.before.before.args in
-    c.ends-in-marker.ensures
-    ∙ sym (continued-at a.prefix a.line.now r.result (r.result + n.result) e.code-end.result r.ensures.0 (rw n.ensures.0) e.code-end.ensures.0)
+    let e : tie.After-code_end-end = c.before.before in
+    let n = e.sentinel_ended in
+    let r = e.run_end-indented in
+    let a = e.args in
+    c.ends_in_marker.ensures
+    ∙ sym (continued-at a.prefix a.line.now r.result (r.result + n.result) e.code_end-end.result r.ensures.0 (rw n.ensures.0) e.code_end-end.ensures.0)
 
-pub continued-f-spec : {M : Type 1} → statement M
-continued-f-spec =
+pub continued_f_spec : {M : Type 1} → statement M
+continued_f_spec =
     tie.close
     (tie.spec
     (λ c κs. search rules)

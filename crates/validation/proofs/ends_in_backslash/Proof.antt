@@ -17,11 +17,11 @@ none : (s : List ℕ) → length s ≡ 0 → starts 92 (reverse s) ≡ false
 none [] e = refl
 none (x ∷ s) e = absurd (omega arith)
 
-returns-2 : tie.Need-returns-2
+returns-2 : tie.Need-returns
 returns-2 c =
-    let s = c.before.before.args.text.now in
+    let s = c.args.text.now in
     sym (rw take-length at (last_byte 92 s (length s) (omega arith) (omega arith)))
 
-pub ends-in-backslash-spec : {M : Type 1} → statement M
-ends-in-backslash-spec =
-    tie.close (tie.spec (λ c. sym (none c.before.args.text.now c.if1.true)) (λ c. search rules) (λ c. search rules) returns-2)
+pub ends_in_backslash_spec : {M : Type 1} → statement M
+ends_in_backslash_spec =
+    tie.close (tie.spec (λ c. sym (none c.args.text.now c.if-text-eq0.true)) (λ c. search rules) (λ c. search rules) returns-2)

@@ -9,24 +9,24 @@ use Rattle.validation.proofs.Lines.{eol-at}
 use Rattle.validation.proofs.eol_bytes.Statement.{statement}
 use Rattle.validation.proofs.eol_bytes.Tie as tie
 
-returns : tie.Need-returns
+returns : tie.Need-returns-then-text-at-ne13
 returns c =
-    let a = c.before.before.before.before.args in
-    (simp (eol-at a.text.now a.at (omega arith), ne_eqb _ _ c.if1.true), search rules)
+    let a = c.args in
+    (simp (eol-at a.text.now a.at (omega arith), ne_eqb _ _ c.if-text-at-ne13.true), search rules)
 
-returns-2 : tie.Need-returns-2
+returns-2 : tie.Need-returns-then-b-eq10
 returns-2 c =
-    let b = c.before.before.before.byte_at in
-    let a = c.before.before.before.before.before.args in
-    let e = sym b.ensures ∙ c.if2.true in
-    (simp (eol-at a.text.now a.at (omega arith), c.before.if1.false, e), omega (arith, inside a.text.now _ 10 (omega arith) e))
+    let b = c.byte_at-b in
+    let a = c.args in
+    let e = sym b.ensures ∙ c.if-b-eq10.true in
+    (simp (eol-at a.text.now a.at (omega arith), c.if-text-at-ne13.false, e), omega (arith, inside a.text.now _ 10 (omega arith) e))
 
-returns-3 : tie.Need-returns-3
+returns-3 : tie.Need-returns-else-b-eq10
 returns-3 c =
-    let b = c.before.before.before.byte_at in
-    let a = c.before.before.before.before.before.args in
-    (simp (eol-at a.text.now a.at (omega arith), c.before.if1.false, ← b.ensures, ne_eqb _ _ c.if2.false), search rules)
+    let b = c.byte_at-b in
+    let a = c.args in
+    (simp (eol-at a.text.now a.at (omega arith), c.if-text-at-ne13.false, ← b.ensures, ne_eqb _ _ c.if-b-eq10.false), search rules)
 
-pub eol-bytes-spec : {M : Type 1} → statement M
-eol-bytes-spec =
+pub eol_bytes_spec : {M : Type 1} → statement M
+eol_bytes_spec =
     tie.close (tie.spec (λ c. search rules) (λ c κs. search rules) (λ c. search rules) returns returns-2 returns-3)

@@ -4,8 +4,8 @@ use borrow.Author.Rules.{rules}
 use Rattle.validation.proofs.foreign.Statement.{statement}
 use Rattle.validation.proofs.foreign.Tie as tie
 
-pub foreign-spec : {M : Type 1} → statement M
-foreign-spec =
+pub foreign_spec : {M : Type 1} → statement M
+foreign_spec =
     tie.close
     (tie.spec
     (λ c. search rules)
@@ -14,5 +14,5 @@ foreign-spec =
     (λ c. search rules)
     (λ c κs. search rules)
     (λ c. search rules)
-    (λ c. rw c.before.enum-told2.given.1 c.foreign-f.ensures)
-    (λ c. rw c.before.enum-told3.given.1 c.foreign-f2.ensures))
+    (λ c. rw c.in-FortranFree.is c.foreign_f.ensures)
+    (λ c. rw c.in-FortranFixed.is c.foreign_f-in-FortranFixed.ensures))

@@ -6,8 +6,8 @@ use Rattle.validation.proofs.foreign_f.Statement.{statement}
 use Rattle.validation.proofs.foreign_f.Tie as tie
 
 returns : tie.Need-returns
-returns c = simp (c.sentinel-ended.ensures.0, c.before.sentinel-any.ensures.0, c.before.before.run-end.ensures.0, zero-add)
+returns c = simp (c.sentinel_ended-own.ensures.0, c.sentinel_any-any.ensures.0, c.run_end-indented.ensures.0, zero-add)
 
-pub foreign-f-spec : {M : Type 1} → statement M
-foreign-f-spec =
+pub foreign_f_spec : {M : Type 1} → statement M
+foreign_f_spec =
     tie.close (tie.spec (λ c κs. search rules) (λ c κs. search rules) (λ c κs. search rules) returns)

@@ -3,5 +3,5 @@
 use Rattle.validation.proofs.opened.Statement.{statement}
 use Rattle.validation.proofs.opened.Tie as tie
 
-pub opened-spec : {M : Type 1} → statement M
-opened-spec = tie.close (tie.spec (λ c. simp c.if1.true) (λ c. simp c.if1.false))
+pub opened_spec : {M : Type 1} → statement M
+opened_spec = tie.close (tie.spec (λ c. simp c.if-b.true) (λ c. simp c.if-b.false))

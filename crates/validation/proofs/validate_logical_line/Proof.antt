@@ -11,61 +11,61 @@ use Rattle.validation.proofs.Checking.{fault-end, fault-fine-at, fault-wrong-at,
 use Rattle.validation.proofs.validate_logical_line.Statement.{statement}
 use Rattle.validation.proofs.validate_logical_line.Tie as tie
 
-abbrev invariant-loop : tie.invariant-loop
-invariant-loop language prefix line tail at₀ at =
+abbrev invariant-loop-at : tie.invariant-loop-at
+invariant-loop-at language prefix line tail at₀ at =
     (at ≤ length line) × (tail ≡ blank_from line) × (fault_from language prefix 0 at (drop at line) ≡ fault language prefix line)
 
-abbrev decreases-loop : tie.decreases-loop
-decreases-loop language prefix line tail at₀ at = length line - at
+abbrev decreases-loop-at : tie.decreases-loop-at
+decreases-loop-at language prefix line tail at₀ at = length line - at
 
-loop-holds : tie.Need-loop-init invariant-loop decreases-loop
+loop-holds : tie.Need-loop-at-init invariant-loop-at decreases-loop-at
 unfolding fault
-loop-holds c = (omega arith, c.blank-from.ensures, refl)
+loop-holds c = (omega arith, c.blank_from-tail.ensures, refl)
 
-returns : tie.Need-returns invariant-loop decreases-loop
+returns : tie.Need-returns-in-Fine invariant-loop-at decreases-loop-at
 returns c =
-    let k : tie.After-check-line invariant-loop decreases-loop = c.before.before in
+    let k : tie.After-check_line invariant-loop-at decreases-loop-at = c.before in
     let l = k.before in
-    let a = l.before.before.before.before.args in
-    sym (fault-fine-at a.language a.prefix a.line.now _ l.loop-test.true (sym k.check-line.ensures.0 ∙ c.enum_told.given.1)) ∙ l.before.loop.invariant.2
+    let a = l.args in
+    sym (fault-fine-at a.language a.prefix a.line.now _ l.loop-at-test.true (sym k.check_line.ensures.0 ∙ c.in-Fine.is)) ∙ l.loop-at.invariant.2
 
-returns-2 : tie.Need-returns-2 invariant-loop decreases-loop
+returns-2 : tie.Need-returns-in-WrongAt invariant-loop-at decreases-loop-at
 returns-2 c =
-    let k : tie.After-check-line invariant-loop decreases-loop = c.before.before.before in
+    let k : tie.After-check_line invariant-loop-at decreases-loop-at = c.before in
     let l = k.before in
-    let a = l.before.before.before.before.args in
-    sym (fault-wrong-at a.language a.prefix a.line.now _ _ l.loop-test.true (sym k.check-line.ensures.0 ∙ c.before.place.given.1)) ∙ l.before.loop.invariant.2
+    let a = l.args in
+    sym (fault-wrong-at a.language a.prefix a.line.now _ _ l.loop-at-test.true (sym k.check_line.ensures.0 ∙ c.in-WrongAt.is)) ∙ l.loop-at.invariant.2
 
 -- the next line is further on and within the text
-onward : (c : tie.After-known-told2 invariant-loop decreases-loop) →
-    let l = c.before.before.before.before in
-    Onward l.before.loop.at (length l.before.before.before.before.args.line.now) (Next c.before.n.given.0.0)
-onward c = subst (Onward _ _) c.before.n.given.1 c.before.before.before.check-line.ensures.1
+onward : (c : tie.In-Next invariant-loop-at decreases-loop-at) →
+    let l = c.before.before in
+    Onward l.loop-at.at (length l.args.line.now) (Next c.in-Next.n)
+onward c = subst (Onward _ _) c.in-Next.is c.check_line.ensures.1
 
-loop-again : tie.Need-loop-preserved invariant-loop decreases-loop
+loop-again : tie.Need-loop-at-preserved invariant-loop-at decreases-loop-at
 loop-again c =
-    let k : tie.After-check-line invariant-loop decreases-loop = c.before.before.before in
+    let k : tie.After-check_line invariant-loop-at decreases-loop-at = c.before in
     let l = k.before in
-    let a = l.before.before.before.before.args in (
+    let a = l.args in (
       omega (arith, onward c),
-      l.before.loop.invariant.1,
-      sym (fault-next-at a.language a.prefix a.line.now _ _ (onward c).0 l.loop-test.true (sym k.check-line.ensures.0 ∙ c.before.n.given.1)) ∙ l.before.loop.invariant.2,
+      l.loop-at.invariant.1,
+      sym (fault-next-at a.language a.prefix a.line.now _ _ (onward c).0 l.loop-at-test.true (sym k.check_line.ensures.0 ∙ c.in-Next.is)) ∙ l.loop-at.invariant.2,
     )
 
-returns-3 : tie.Need-returns-3 invariant-loop decreases-loop
+returns-3 : tie.Need-returns invariant-loop-at decreases-loop-at
 returns-3 c =
-    let a = c.before.before.before.before.args in
-    sym (fault-end a.language a.prefix a.line.now _ c.loop-test.false) ∙ c.before.loop.invariant.2
+    let a = c.args in
+    sym (fault-end a.language a.prefix a.line.now _ c.loop-at-test.false) ∙ c.loop-at.invariant.2
 
-pub validate-logical-line-spec : {M : Type 1} → statement M
-validate-logical-line-spec =
+pub validate_logical_line_spec : {M : Type 1} → statement M
+validate_logical_line_spec =
     tie.close
     (tie.spec
-    invariant-loop
-    decreases-loop
+    invariant-loop-at
+    decreases-loop-at
     (λ c κs. search rules)
     loop-holds
-    (λ c κs. (omega arith, c.before.loop.invariant.1))
+    (λ c κs. (omega arith, c.loop-at.invariant.1))
     (λ c. search rules)
     returns
     (λ c. search rules)

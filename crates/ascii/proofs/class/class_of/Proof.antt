@@ -10,5 +10,5 @@ returns : tie.Need-returns
 unfolding class_of
 returns c = at class_of 0 256 c.args.b (search rules)
 
-pub class-of-spec : {M : Type 1} → statement M
-class-of-spec = tie.close (tie.spec (λ c. search rules) returns)
+pub class_of_spec : {M : Type 1} → statement M
+class_of_spec = tie.close (tie.spec (λ c. search rules) returns)

@@ -34,5 +34,5 @@ byte-again b h = by_cases (is_upper b) (λ e. rw e (omega (arith, leb-true b 90 
 fits : (b : ℕ) → b < 256 → worked 165 256 230 b < 256
 fits b h = rw (follows 165 256 230 refl b h) (byte-again b h)
 
-pub fold-spec : {M : Type 1} → statement M
-fold-spec = tie.close (tie.spec (λ c. search rules) (λ c. search rules) (λ c. search rules) (λ c. omega (arith, fits c.args.b (search rules))) returns)
+pub fold_spec : {M : Type 1} → statement M
+fold_spec = tie.close (tie.spec (λ c. search rules) (λ c. search rules) (λ c. search rules) (λ c. omega (arith, fits c.args.b (search rules))) returns)

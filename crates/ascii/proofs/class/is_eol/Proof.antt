@@ -11,11 +11,11 @@ use Rattle.ascii.proofs.Classes.{told}
 use Rattle.ascii.proofs.class.is_eol.Statement.{statement}
 use Rattle.ascii.proofs.class.is_eol.Tie as tie
 
-above : tie.Need-returns
-above c = sym (agree-where (ltb 13) is_eol (λ _. false) 256 refl c.before.args.b (search rules) (lt-ltb _ _ c.if1.true))
+above : tie.Need-returns-then-b-gt13
+above c = sym (agree-where (ltb 13) is_eol (λ _. false) 256 refl c.args.b (search rules) (lt-ltb _ _ c.if-b-gt13.true))
 
-other : tie.Need-returns-2
-other c = rw c.class_of.ensures (told 3 c.before.before.args.b (search rules))
+other : tie.Need-returns
+other c = rw c.class_of.ensures (told 3 c.args.b (search rules))
 
-pub is-eol-spec : {M : Type 1} → statement M
-is-eol-spec = tie.close (tie.spec above (λ c κs. search rules) other)
+pub is_eol_spec : {M : Type 1} → statement M
+is_eol_spec = tie.close (tie.spec above (λ c κs. search rules) other)

@@ -11,14 +11,14 @@ use Rattle.ascii.proofs.Classes.{told}
 use Rattle.ascii.proofs.class.is_space.Statement.{statement}
 use Rattle.ascii.proofs.class.is_space.Tie as tie
 
-above : tie.Need-returns
-above c = sym (agree-where (ltb 32) is_space (λ _. false) 256 refl c.before.args.b (search rules) (lt-ltb _ _ c.if1.true))
+above : tie.Need-returns-then-b-gt32
+above c = sym (agree-where (ltb 32) is_space (λ _. false) 256 refl c.args.b (search rules) (lt-ltb _ _ c.if-b-gt32.true))
 
-blank : tie.Need-returns-2
-blank c = rw c.if2.true
+blank : tie.Need-returns-then-b-eq32
+blank c = rw c.if-b-eq32.true
 
-other : tie.Need-returns-3
-other c = rw c.class_of.ensures (told 1 c.before.before.before.args.b (search rules))
+other : tie.Need-returns
+other c = rw c.class_of-k.ensures (told 1 c.args.b (search rules))
 
-pub is-space-spec : {M : Type 1} → statement M
-is-space-spec = tie.close (tie.spec above blank (λ c κs. search rules) other)
+pub is_space_spec : {M : Type 1} → statement M
+is_space_spec = tie.close (tie.spec above blank (λ c κs. search rules) other)

@@ -5,5 +5,5 @@ use Rattle.bookform.proofs.Steps.{clauses-more}
 use Rattle.bookform.proofs.format.clauses_left.Statement.{statement}
 use Rattle.bookform.proofs.format.clauses_left.Tie as tie
 
-pub clauses-left-spec : {M : Type 1} → statement M
-clauses-left-spec = tie.close (tie.spec (λ c. search rules) (λ c. search rules) (λ c. rw (clauses-more, c.if1.false)))
+pub clauses_left_spec : {M : Type 1} → statement M
+clauses_left_spec = tie.close (tie.spec (λ c. search rules) (λ c. search rules) (λ c. rw (clauses-more, c.if-c-eq0.false)))

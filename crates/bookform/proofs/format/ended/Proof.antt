@@ -4,16 +4,16 @@ use borrow.Author.Rules.{rules}
 use Rattle.bookform.proofs.format.ended.Statement.{statement}
 use Rattle.bookform.proofs.format.ended.Tie as tie
 
-pub ended-spec : {M : Type 1} → statement M
-ended-spec =
+pub ended_spec : {M : Type 1} → statement M
+ended_spec =
     tie.close
     (tie.spec
     (λ c. search rules) (λ c. search rules) (λ c. search rules) (λ c. search rules) (λ c. search rules) (λ c. search rules) (λ c. search rules) (λ c. search rules)
-    (λ c. rw c.enum_told.given.1)
-    (λ c. rw c.enum-told2.given.1)
-    (λ c. rw c.enum-told3.given.1)
-    (λ c. rw c.enum-told4.given.1)
-    (λ c. rw c.enum-told5.given.1)
-    (λ c. rw c.enum-told6.given.1)
-    (λ c. rw c.enum-told7.given.1)
+    (λ c. rw c.in-HeaderByte.is)
+    (λ c. rw c.in-ClauseCount.is)
+    (λ c. rw c.in-DirectiveLength.is)
+    (λ c. rw c.in-DirectiveName.is)
+    (λ c. rw c.in-Rule.is)
+    (λ c. rw c.in-ClauseLength.is)
+    (λ c. rw c.in-ClauseName.is)
     (λ c. search rules))

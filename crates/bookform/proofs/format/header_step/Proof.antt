@@ -6,14 +6,14 @@ use borrow.Author.Tests.{lt-ltb, le-ltb}
 use Rattle.bookform.proofs.format.header_step.Statement.{statement}
 use Rattle.bookform.proofs.format.header_step.Tie as tie
 
-pub header-step-spec : {M : Type 1} → statement M
-header-step-spec =
+pub header_step_spec : {M : Type 1} → statement M
+header_step_spec =
     tie.close
     (tie.spec
     (λ c κs. search rules)
     (λ c. search rules)
     (λ c κs. search rules)
-    (λ c. c.when.ensures ∙ simp (c.before.before.is-header.ensures, lt-ltb _ _ c.before.if1.true))
+    (λ c. c.when.ensures ∙ simp (c.is_header-good.ensures, lt-ltb _ _ c.if-i-lt7.true))
     (λ c κs. search rules)
     (λ c κs. search rules)
-    (λ c. c.when2.ensures ∙ simp (c.before.before.before.is-header.ensures, le-ltb _ _ c.before.before.if1.false, c.before.wide.ensures)))
+    (λ c. c.when-2.ensures ∙ simp (c.is_header-good.ensures, le-ltb _ _ c.if-i-lt7.false, c.wide.ensures)))

@@ -6,14 +6,14 @@ use Rattle.bookform.proofs.Steps.{name-more}
 use Rattle.bookform.proofs.format.name_step.Statement.{statement}
 use Rattle.bookform.proofs.format.name_step.Tie as tie
 
-pub name-step-spec : {M : Type 1} → statement M
-name-step-spec =
+pub name_step_spec : {M : Type 1} → statement M
+name_step_spec =
     tie.close
     (tie.spec
     (λ c κs. search rules)
     (λ c κs. search rules)
     (λ c κs. search rules)
-    (λ c. c.when.ensures ∙ rw (c.before.directives-left.ensures, c.before.before.before.is_IsWord.ensures, c.before.before.if1.true))
+    (λ c. c.when.ensures ∙ rw (c.directives_left.ensures, c.is_word-word.ensures, c.if-n-eq0.true))
     (λ c. search rules)
     (λ c κs. search rules)
-    (λ c. rw (name-more, c.before.if1.false) (c.when2.ensures ∙ rw c.before.before.is_IsWord.ensures)))
+    (λ c. rw (name-more, c.if-n-eq0.false) (c.when-2.ensures ∙ rw c.is_word-word.ensures)))

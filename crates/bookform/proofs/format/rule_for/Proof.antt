@@ -8,13 +8,13 @@ use Rattle.bookform.proofs.format.rule_for.Statement.{statement}
 use Rattle.bookform.proofs.format.rule_for.Tie as tie
 
 -- 4 to 255 name no rule
-returns-5 : tie.Need-returns-5
+returns-5 : tie.Need-returns-in-4-to-255
 returns-5 c =
-    let r = c.match.rest in
-    let none : rule_for c.before.args.b ≡ Unknown = simp (ne_eqb _ _ r.1, ne_eqb _ _ r.0.1, ne_eqb _ _ r.0.0.1, ne_eqb _ _ r.0.0.0.1) in
+    let r = c.in-4-to-255.in-4-to-255-own.rest in
+    let none : rule_for c.args.b ≡ Unknown = simp (ne_eqb _ _ r.1, ne_eqb _ _ r.0.1, ne_eqb _ _ r.0.0.1, ne_eqb _ _ r.0.0.0.1) in
     sym none
 
-pub rule-for-spec : {M : Type 1} → statement M
-rule-for-spec =
+pub rule_for_spec : {M : Type 1} → statement M
+rule_for_spec =
     tie.close
-    (tie.spec (λ c. simp c.match.keys1) (λ c. simp c.match.keys2) (λ c. simp c.match.keys3) (λ c. simp c.match.keys4) returns-5)
+    (tie.spec (λ c. simp c.in-0.is) (λ c. simp c.in-1.is) (λ c. simp c.in-2.is) (λ c. simp c.in-3.is) returns-5)

@@ -6,14 +6,14 @@ use Rattle.bookform.proofs.Steps.{word_more}
 use Rattle.bookform.proofs.format.word_step.Statement.{statement}
 use Rattle.bookform.proofs.format.word_step.Tie as tie
 
-pub word-step-spec : {M : Type 1} → statement M
-word-step-spec =
+pub word_step_spec : {M : Type 1} → statement M
+word_step_spec =
     tie.close
     (tie.spec
     (λ c κs. search rules)
     (λ c κs. search rules)
     (λ c κs. search rules)
-    (λ c. c.when.ensures ∙ rw (c.before.clauses-left.ensures, c.before.before.before.is_IsWord.ensures, c.before.before.if1.true))
+    (λ c. c.when.ensures ∙ rw (c.clauses_left.ensures, c.is_word-word.ensures, c.if-n-eq0.true))
     (λ c. search rules)
     (λ c κs. search rules)
-    (λ c. rw (word_more, c.before.if1.false) (c.when2.ensures ∙ rw c.before.before.is_IsWord.ensures)))
+    (λ c. rw (word_more, c.if-n-eq0.false) (c.when-2.ensures ∙ rw c.is_word-word.ensures)))

@@ -11,10 +11,10 @@ returns c h =
     let s = c.before.before.before.before.before.before.before.before.before.before.before.before.before.before.before.before.before.before in
     let a = s.args in
     run-stands a.between a.book.now a.at s.requires.2 7
-    (rw (c.before.before.before.before.before.before.before.before.stands-behind.ensures, c.before.before.before.before.before.before.before.stands-behind2.ensures, c.before.before.before.before.before.before.stands-behind3.ensures, c.before.before.before.before.before.stands-behind4.ensures, c.before.before.before.before.stands-behind5.ensures, c.before.before.before.stands-behind6.ensures, c.before.before.stands-behind7.ensures, c.stands-behind8.ensures) at h)
+    (rw (c.stands_behind.ensures, c.stands_behind-2.ensures, c.stands_behind-3.ensures, c.stands_behind-4.ensures, c.stands_behind-5.ensures, c.stands_behind-6.ensures, c.stands_behind-7.ensures, c.stands_behind-8.ensures) at h)
 
-pub eight-stand-spec : {M : Type 1} → statement M
-eight-stand-spec =
+pub eight_stand_spec : {M : Type 1} → statement M
+eight_stand_spec =
     tie.close
     (tie.spec
     (λ c. omega arith)

@@ -7,21 +7,21 @@ use Rattle.bookform.proofs.Standings.{directive-passed, clause-passed}
 use Rattle.bookform.proofs.passing.entry_end.Statement.{statement}
 use Rattle.bookform.proofs.passing.entry_end.Tie as tie
 
-returns : tie.Need-returns
+returns : tie.Need-returns-then-lead-eq0
 returns c h =
-    let a = c.before.before.before.args in
+    let a = c.args in
     let e : a.lead ≡ 0 = omega arith in
-    rw e (directive-passed a.book.now a.at c.name-end.result (c.name-end.ensures h))
+    rw e (directive-passed a.book.now a.at c.name_end.result (c.name_end.ensures h))
 
-returns-2 : tie.Need-returns-2
+returns-2 : tie.Need-returns-then-is_rule
 returns-2 c h =
-    let a = c.before.before.before.before.before.before.before.args in
+    let a = c.args in
     let e : a.lead ≡ 1 = omega arith in
-    let k = sym c.before.before.is-rule.ensures ∙ c.before.if3.true in
-    rw e (clause-passed a.book.now a.at c.name-end2.result k (c.name-end2.ensures h))
+    let k = sym c.is_rule.ensures ∙ c.if-is_rule.true in
+    rw e (clause-passed a.book.now a.at c.name_end-then-is_rule.result k (c.name_end-then-is_rule.ensures h))
 
-pub entry-end-spec : {M : Type 1} → statement M
-entry-end-spec =
+pub entry_end_spec : {M : Type 1} → statement M
+entry_end_spec =
     tie.close
     (tie.spec
     (λ c κs. search rules)

@@ -15,18 +15,18 @@ use Rattle.bookform.proofs.Standings.{not_so}
 use Rattle.bookform.proofs.passing.has_header.Statement.{statement}
 use Rattle.bookform.proofs.passing.has_header.Tie as tie
 
-abbrev invariant-loop : tie.invariant-loop
-invariant-loop book i₀ i = (i ≤ 7) × (bad_from (HeaderByte i) i (drop i book) ≡ bad_from (HeaderByte 0) 0 book)
+abbrev invariant-loop-i : tie.invariant-loop-i
+invariant-loop-i book i₀ i = (i ≤ 7) × (bad_from (HeaderByte i) i (drop i book) ≡ bad_from (HeaderByte 0) 0 book)
 
-abbrev decreases-loop : tie.decreases-loop
-decreases-loop book i₀ i = 7 - i
+abbrev decreases-loop-i : tie.decreases-loop-i
+decreases-loop-i book i₀ i = 7 - i
 
-pub has-header-spec : {M : Type 1} → statement M
-has-header-spec =
+pub has_header_spec : {M : Type 1} → statement M
+has_header_spec =
     tie.close
     (tie.spec
-    invariant-loop
-    decreases-loop
+    invariant-loop-i
+    decreases-loop-i
     (λ c. not_so)
     (λ c. (omega arith, refl))
     (λ c. omega arith)
@@ -34,16 +34,16 @@ has-header-spec =
     (λ c. not_so)
     (λ c. omega arith)
     (λ c. omega arith)
-    (λ c. let l = c.before.before.before.before.loop in
-    let bs = c.before.before.before.before.before.before.before.args.book.now in
-    let t = sym c.before.is-header.ensures ∙ not-false c.before.is-header.result c.if2.false in
+    (λ c. let l = c.loop-i in
+    let bs = c.args.book.now in
+    let t = sym c.is_header.ensures ∙ not-false c.is_header.result c.if-not-is_header.false-raw in
     let k : ltb l.i 7 ≡ true = lt-ltb l.i 7 (omega arith) in
     (omega arith, sym (bad-later bs (HeaderByte l.i) l.i (HeaderByte (l.i + 1)) (omega arith) (rw (t, k) refl)) ∙ l.invariant.1))
     (λ c. omega arith)
     (λ c κs. search rules)
-    (λ c h. let l = c.before.before.before.loop in
-    let bs = c.before.before.before.before.before.before.args.book.now in
-    let t = sym c.is-header2.ensures ∙ h in
+    (λ c h. let l = c.loop-i in
+    let bs = c.args.book.now in
+    let t = sym c.is_header-2.ensures ∙ h in
     let e : l.i ≡ 7 = omega arith in
     let first = bad-later bs (HeaderByte 7) 7 (ClauseCount (get_or bs 7 0)) (omega arith) (rw t refl) in
     let then = bad-later bs (ClauseCount (get_or bs 7 0)) 8 (directives_left (get_or bs 7 0) (get_or bs 8 0)) (omega arith) refl in

@@ -13,23 +13,23 @@ use Rattle.bookform.proofs.passing.is_name.Statement.{statement}
 use Rattle.bookform.proofs.passing.is_name.Tie as tie
 
 -- the first byte is of a word
-first : (f : tie.Else1) → is_word (get_or f.before.before.before.before.args.book.now f.before.before.before.before.args.start 0) ≡ true
-first f = sym f.before.is_IsWord.ensures ∙ not-false f.before.is_IsWord.result f.if1.false
+first : (f : tie.Else-not-is_word) → is_word (get_or f.args.book.now f.args.start 0) ≡ true
+first f = sym f.is_word.ensures ∙ not-false f.is_word.result f.if-not-is_word.false-raw
 
-all-stand-requires : tie.Need-all-stand-requires
+all-stand-requires : tie.Need-all_stand-requires
 all-stand-requires c κs =
-    let f : tie.Else1 = c.before.before.before in
-    let a = f.before.before.before.before.args in
+    let f : tie.Else-not-is_word = c.before.before.before in
+    let a = f.args in
     let e : a.start + 1 - 1 ≡ a.start = omega arith in
     (omega arith, omega arith, omega arith, rw e (first f))
 
-returns-3 : tie.Need-returns-3
+returns-3 : tie.Need-returns
 returns-3 c h =
-    let l : tie.Else2 = c.before in
-    record { first = first l.before.before.before; inner = c.all-stand.ensures h; last = sym l.before.is-word2.ensures ∙ not-false l.before.is-word2.result l.if2.false }
+    let l : tie.Else-not-is_word-2 = c.before in
+    record { first = first l.before.before.before; inner = c.all_stand.ensures h; last = sym l.is_word-2.ensures ∙ not-false l.is_word-2.result l.if-not-is_word-2.false-raw }
 
-pub is-name-spec : {M : Type 1} → statement M
-is-name-spec =
+pub is_name_spec : {M : Type 1} → statement M
+is_name_spec =
     tie.close
     (tie.spec
     (λ c. search rules)

@@ -5,5 +5,5 @@ use borrow.Author.Rules.{rules}
 use Rattle.bookform.proofs.passing.is_of_word.Statement.{statement}
 use Rattle.bookform.proofs.passing.is_of_word.Tie as tie
 
-pub is-of-word-spec : {M : Type 1} → statement M
-is-of-word-spec = tie.close (tie.spec (λ c κs. search rules) (λ c. rw c.is-letter.ensures refl))
+pub is_of_word_spec : {M : Type 1} → statement M
+is_of_word_spec = tie.close (tie.spec (λ c κs. search rules) (λ c. rw c.is_letter.ensures refl))

@@ -12,29 +12,29 @@ use Rattle.bookform.proofs.Steps.{at_least}
 use Rattle.bookform.proofs.passing.name_end.Statement.{statement}
 use Rattle.bookform.proofs.passing.name_end.Tie as tie
 
-is-name-requires : tie.Need-is-name-requires
+is-name-requires : tie.Need-is_name-requires
 is-name-requires c κs =
-    let w = c.before.before.wide in
-    let a = c.before.before.before.before.before.before.args in
-    let f = ltb-true w.result (length a.book.now - a.place) (and_right c.before.is-length.result (ltb w.result (length a.book.now - a.place)) c.if2.true) in
-    let t = at_least (get_or a.book.now a.place 0) (sym c.before.is-length.ensures ∙ and_left c.before.is-length.result (ltb w.result (length a.book.now - a.place)) c.if2.true) in
+    let w = c.wide-length in
+    let a = c.args in
+    let f = ltb-true w.result (length a.book.now - a.place) (and_right c.is_length.result (ltb w.result (length a.book.now - a.place)) c.if-is_length-length.true) in
+    let t = at_least (get_or a.book.now a.place 0) (sym c.is_length.ensures ∙ and_left c.is_length.result (ltb w.result (length a.book.now - a.place)) c.if-is_length-length.true) in
     (omega (arith, t, w.ensures), omega (arith, f))
 
-returns : tie.Need-returns
+returns : tie.Need-returns-then-is_name
 returns c h =
     let o = c.before.before in
-    let w = o.before.before.wide in
-    let a = o.before.before.before.before.before.before.args in
-    let f = ltb-true w.result (length a.book.now - a.place) (and_right o.before.is-length.result (ltb w.result (length a.book.now - a.place)) o.if2.true) in
+    let w = o.wide-length in
+    let a = o.args in
+    let f = ltb-true w.result (length a.book.now - a.place) (and_right o.is_length.result (ltb w.result (length a.book.now - a.place)) o.if-is_length-length.true) in
     record {
-      sized = sym o.before.is-length.ensures ∙ and_left o.before.is-length.result (ltb w.result (length a.book.now - a.place)) o.if2.true;
+      sized = sym o.is_length.ensures ∙ and_left o.is_length.result (ltb w.result (length a.book.now - a.place)) o.if-is_length-length.true;
       ends = rw w.ensures refl;
       within = omega (arith, f);
-      name = c.before.is_name.ensures c.if3.true;
+      name = c.is_name.ensures c.if-is_name.true;
     }
 
-pub name-end-spec : {M : Type 1} → statement M
-name-end-spec =
+pub name_end_spec : {M : Type 1} → statement M
+name_end_spec =
     tie.close
     (tie.spec
     (λ c. omega arith)
@@ -42,9 +42,9 @@ name-end-spec =
     (λ c κs. search rules)
     (λ c. omega arith)
     (λ c. omega arith)
-    (λ c. let w = c.before.before.wide in
-    let a = c.before.before.before.before.before.before.args in
-    omega (arith, ltb-true w.result (length a.book.now - a.place) (and_right c.before.is-length.result (ltb w.result (length a.book.now - a.place)) c.if2.true)))
+    (λ c. let w = c.wide-length in
+    let a = c.args in
+    omega (arith, ltb-true w.result (length a.book.now - a.place) (and_right c.is_length.result (ltb w.result (length a.book.now - a.place)) c.if-is_length-length.true)))
     is-name-requires
     returns
     (λ c h. absurd (omega (arith, h)))

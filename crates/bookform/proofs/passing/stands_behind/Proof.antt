@@ -5,5 +5,5 @@ use borrow.Author.Rules.{rules}
 use Rattle.bookform.proofs.passing.stands_behind.Statement.{statement}
 use Rattle.bookform.proofs.passing.stands_behind.Tie as tie
 
-pub stands-behind-spec : {M : Type 1} → statement M
-stands-behind-spec = tie.close (tie.spec (λ c κs. search rules) (λ c. rw c.is-of-word.ensures refl))
+pub stands_behind_spec : {M : Type 1} → statement M
+stands_behind_spec = tie.close (tie.spec (λ c κs. search rules) (λ c. rw c.is_of_word.ensures refl))

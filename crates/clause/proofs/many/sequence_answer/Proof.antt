@@ -10,17 +10,17 @@ use Rattle.clause.proofs.Starting.{started_of, call-is}
 use Rattle.clause.proofs.many.sequence_answer.Statement.{statement}
 use Rattle.clause.proofs.many.sequence_answer.Tie as tie
 
-count-requires : tie.Need-count-clauses-requires
+count-requires : tie.Need-count_clauses-requires
 count-requires c κs =
-    let a = c.before.before.before.before.args in
-    (subst (Started a.book.now a.text.now a.slots) (sym c.start_under.ensures) (started_of a.book.now a.text.now a.slots), c.before.before.before.before.requires.1)
+    let a = c.args in
+    (subst (Started a.book.now a.text.now a.slots) (sym c.start_under-start.ensures) (started_of a.book.now a.text.now a.slots), c.requires.1)
 
 returns : tie.Need-returns
 returns c =
-    let a = c.before.before.before.before.before.args in
-    c.count-clauses.ensures
-    ∙ ap (λ (s : SequenceState). and_then (read_on a.book.now a.text.now s) (λ q. given (counted q))) c.before.start_under.ensures
+    let a = c.args in
+    c.count_clauses.ensures
+    ∙ ap (λ (s : SequenceState). and_then (read_on a.book.now a.text.now s) (λ q. given (counted q))) c.start_under-start.ensures
     ∙ ap (λ (k : SequenceCall). k.answer) (call-is a.book.now a.text.now a.slots)
 
-pub sequence-answer-spec : {M : Type 1} → statement M
-sequence-answer-spec = tie.close (tie.spec (λ c κs. search rules) count-requires returns)
+pub sequence_answer_spec : {M : Type 1} → statement M
+sequence_answer_spec = tie.close (tie.spec (λ c κs. search rules) count-requires returns)

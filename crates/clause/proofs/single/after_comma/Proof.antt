@@ -6,11 +6,11 @@ use Rattle.clause.specs.Sequence.{after_comma}
 use Rattle.clause.proofs.single.after_comma.Statement.{statement}
 use Rattle.clause.proofs.single.after_comma.Tie as tie
 
-pub after-comma-spec : {M : Type 1} → statement M
-after-comma-spec =
+pub after_comma_spec : {M : Type 1} → statement M
+after_comma_spec =
     tie.close
     (tie.spec
     (λ c. search rules)
     (λ c. search rules)
-    (λ c. sym (ap (after_comma _) c.before.skipped.given.1))
-    (λ c. sym (ap (after_comma _) c.before.skipped2.given.1)))
+    (λ c. sym (ap (after_comma _) c.in-Past.is))
+    (λ c. sym (ap (after_comma _) c.in-OpenAt.is)))

@@ -10,4 +10,4 @@ bare_spec =
     (tie.spec
     (λ c κs. search rules)
     (λ c κs. search rules)
-    (λ c. rw (c.before.narrow.ensures, c.narrow2.ensures)))
+    (λ c. rw (c.narrow.ensures, c.narrow-2.ensures)))

@@ -10,22 +10,22 @@ use Rattle.clause.proofs.single.separation.Statement.{statement}
 use Rattle.clause.proofs.single.separation.Tie as tie
 
 -- a comma stands within the text
-comma-inside : (c : tie.Then1) → c.before.before.before.place2.given.0.0 < length c.before.before.before.before.before.before.before.args.text.now
-comma-inside c = byte_inside 43 c.before.before.before.place2.given.0.0 c.before.before.before.before.before.before.before.args.text.now (sym c.before.byte_at.ensures ∙ c.if1.true)
+comma-inside : (c : tie.Then-byte_at-eq44) → c.in-Past.place < length c.args.text.now
+comma-inside c = byte_inside 43 c.in-Past.place c.args.text.now (sym c.byte_at.ensures ∙ c.if-byte_at-eq44.true)
 
-returns : tie.Need-returns
+returns : tie.Need-returns-then-byte_at-eq44
 returns c =
-    let a = c.before.before.before.before.before.before.before.before.before.args in
-    c.after-comma.ensures
-    ∙ comma-is a.fortran a.text.now a.at _ c.before.before.before.before.before.before.before.skip.ensures.0 _ _ c.before.before.before.before.before.place2.given.1 (starts-at 44 c.before.before.before.before.before.place2.given.0.0 a.text.now (sym c.before.before.before.byte_at.ensures ∙ c.before.before.if1.true)) c.before.skip2.ensures.0
+    let a = c.args in
+    c.after_comma.ensures
+    ∙ comma-is a.fortran a.text.now a.at _ c.skip.ensures.0 _ _ c.in-Past.is (starts-at 44 c.in-Past.place a.text.now (sym c.byte_at.ensures ∙ c.if-byte_at-eq44.true)) c.skip-then-byte_at-eq44.ensures.0
 
-returns-3 : tie.Need-returns-3
+returns-3 : tie.Need-returns-else-byte_at-eq44
 returns-3 c =
-    let a = c.before.before.before.before.before.before.before.args in
-    no-comma-is a.fortran a.text.now a.at _ c.before.before.before.before.before.skip.ensures.0 _ c.before.before.before.place2.given.1 (starts-not 44 c.before.before.before.place2.given.0.0 a.text.now (λ e. c.if1.false (c.before.byte_at.ensures ∙ e)))
+    let a = c.args in
+    no-comma-is a.fortran a.text.now a.at _ c.skip.ensures.0 _ c.in-Past.is (starts-not 44 c.in-Past.place a.text.now (λ e. c.if-byte_at-eq44.false (c.byte_at.ensures ∙ e)))
 
-pub separation-spec : {M : Type 1} → statement M
-separation-spec =
+pub separation_spec : {M : Type 1} → statement M
+separation_spec =
     tie.close
     (tie.spec
     (λ c κs. search rules)
@@ -36,5 +36,5 @@ separation-spec =
     (λ c κs. omega (arith, comma-inside c))
     (λ c κs. search rules)
     returns
-    (λ c. let a = c.before.before.before.before.before.args in unclosed-is a.fortran a.text.now a.at _ c.before.before.before.skip.ensures.0 _ c.before.place.given.1)
+    (λ c. let a = c.args in unclosed-is a.fortran a.text.now a.at _ c.skip.ensures.0 _ c.in-OpenAt.is)
     returns-3)

@@ -10,38 +10,38 @@ use Rattle.clause.proofs.single.with_argument.Tie as tie
 
 opens : tie.Need-closed-requires
 opens c κs =
-    let a = c.before.before.before.before.before.before.before.args in
-    let i = subst (Inside _ _) c.before.before.before.place2.given.1 c.before.before.before.before.before.skip.ensures.1 in
-    (c.before.before.before.before.before.before.before.requires.0, (i.0, (byte_inside 39 c.before.before.before.place2.given.0.0 a.text.now (sym c.before.byte_at.ensures ∙ c.if1.true), c.before.before.before.before.before.before.before.requires.1)))
+    let a = c.args in
+    let i = subst (Inside _ _) c.in-Past.is c.skip.ensures.1 in
+    (c.requires.0, (i.0, (byte_inside 39 c.in-Past.place a.text.now (sym c.byte_at.ensures ∙ c.if-byte_at-eq40.true), c.requires.1)))
 
-returns : tie.Need-returns
+returns : tie.Need-returns-then-byte_at-eq40
 returns c =
-    let a = c.before.before.before.before.before.before.before.before.args in
-    c.closed.ensures ∙ opened-is a.fortran a.text.now a.word a.needed _ (starts-at 40 c.before.before.before.before.place2.given.0.0 a.text.now (sym c.before.before.byte_at.ensures ∙ c.before.if1.true))
-    ∙ argued a.fortran a.text.now a.word a.needed _ _ c.before.before.before.before.before.before.skip.ensures.0 c.before.before.before.before.place2.given.1
+    let a = c.args in
+    c.closed.ensures ∙ opened-is a.fortran a.text.now a.word a.needed _ (starts-at 40 c.in-Past.place a.text.now (sym c.byte_at.ensures ∙ c.if-byte_at-eq40.true))
+    ∙ argued a.fortran a.text.now a.word a.needed _ _ c.skip.ensures.0 c.in-Past.is
 
-returns-2 : tie.Need-returns-2
+returns-2 : tie.Need-returns-then-needed
 returns-2 c =
-    let a = c.before.before.before.before.before.before.before.before.before.args in
-    rw c.fails2.ensures
-    (missing-is a.fortran a.text.now a.word a.needed _ c.before.if2.true (starts-not 40 c.before.before.before.before.before.place2.given.0.0 a.text.now (λ e. c.before.before.if1.false (c.before.before.before.byte_at.ensures ∙ e)))
-    ∙ argued a.fortran a.text.now a.word a.needed _ _ c.before.before.before.before.before.before.before.skip.ensures.0 c.before.before.before.before.before.place2.given.1)
+    let a = c.args in
+    rw c.fails-then-needed.ensures
+    (missing-is a.fortran a.text.now a.word a.needed _ c.if-needed.true (starts-not 40 c.in-Past.place a.text.now (λ e. c.if-byte_at-eq40.false (c.byte_at.ensures ∙ e)))
+    ∙ argued a.fortran a.text.now a.word a.needed _ _ c.skip.ensures.0 c.in-Past.is)
 
-returns-3 : tie.Need-returns-3
+returns-3 : tie.Need-returns-in-OpenAt
 returns-3 c =
-    let a = c.before.before.before.before.before.before.args in
+    let a = c.args in
     rw c.fails.ensures (comment-is a.fortran a.text.now a.word a.needed _
-    ∙ argued a.fortran a.text.now a.word a.needed _ _ c.before.before.before.before.skip.ensures.0 c.before.before.place.given.1)
+    ∙ argued a.fortran a.text.now a.word a.needed _ _ c.skip.ensures.0 c.in-OpenAt.is)
 
-returns-4 : tie.Need-returns-4
+returns-4 : tie.Need-returns-else-needed
 returns-4 c =
-    let a = c.before.before.before.before.before.before.before.before.before.args in
+    let a = c.args in
     rw c.bare.ensures
-    (alone-is a.fortran a.text.now a.word a.needed _ c.before.if2.false (starts-not 40 c.before.before.before.before.before.place2.given.0.0 a.text.now (λ e. c.before.before.if1.false (c.before.before.before.byte_at.ensures ∙ e)))
-    ∙ argued a.fortran a.text.now a.word a.needed _ _ c.before.before.before.before.before.before.before.skip.ensures.0 c.before.before.before.before.before.place2.given.1)
+    (alone-is a.fortran a.text.now a.word a.needed _ c.if-needed.false (starts-not 40 c.in-Past.place a.text.now (λ e. c.if-byte_at-eq40.false (c.byte_at.ensures ∙ e)))
+    ∙ argued a.fortran a.text.now a.word a.needed _ _ c.skip.ensures.0 c.in-Past.is)
 
-pub with-argument-spec : {M : Type 1} → statement M
-with-argument-spec =
+pub with_argument_spec : {M : Type 1} → statement M
+with_argument_spec =
     tie.close
     (tie.spec
     (λ c κs. search rules)
@@ -53,6 +53,6 @@ with-argument-spec =
     returns
     (λ c κs. search rules)
     returns-2
-    (λ c κs. omega (arith, c.before.before.before.before.before.before.before.before.requires.0.short, c.before.before.before.before.before.before.before.before.requires.0.some_bytes, c.before.before.before.before.before.before.before.before.requires.0.inside))
+    (λ c κs. omega (arith, c.requires.0.short, c.requires.0.some_bytes, c.requires.0.inside))
     returns-3
     returns-4)

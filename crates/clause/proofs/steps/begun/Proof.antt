@@ -4,9 +4,9 @@ use borrow.Author.Rules.{rules}
 use Rattle.clause.proofs.steps.begun.Statement.{statement}
 use Rattle.clause.proofs.steps.begun.Tie as tie
 
-pub begun-spec : {M : Type 1} → statement M
-begun-spec =
+pub begun_spec : {M : Type 1} → statement M
+begun_spec =
     tie.close
     (tie.spec
     (λ c κs. search rules)
-    (λ c. rw c.zero-record.ensures))
+    (λ c. rw c.zero_record.ensures))

@@ -3,5 +3,5 @@
 use Rattle.clause.proofs.steps.clean_behind.Statement.{statement}
 use Rattle.clause.proofs.steps.clean_behind.Tie as tie
 
-pub clean-behind-spec : {M : Type 1} → statement M
-clean-behind-spec = tie.close (tie.spec (λ c. rw c.if1.true) (λ c. rw c.if1.false))
+pub clean_behind_spec : {M : Type 1} → statement M
+clean_behind_spec = tie.close (tie.spec (λ c. rw c.if-clause.true) (λ c. rw c.if-clause.false))

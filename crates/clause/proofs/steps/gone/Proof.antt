@@ -5,5 +5,5 @@ use borrow.Author.Rules.{rules}
 use Rattle.clause.proofs.steps.gone.Statement.{statement}
 use Rattle.clause.proofs.steps.gone.Tie as tie
 
-pub gone-spec : {M : Type 1} → statement M
-gone-spec = tie.close (tie.spec (λ c. search rules) (λ c. search rules) (λ c. refl))
+pub gone_spec : {M : Type 1} → statement M
+gone_spec = tie.close (tie.spec (λ c. search rules) (λ c. search rules) (λ c. refl))

@@ -6,8 +6,8 @@ use Rattle.clause.proofs.Reading.{judged-by}
 use Rattle.clause.proofs.steps.judged.Statement.{statement}
 use Rattle.clause.proofs.steps.judged.Tie as tie
 
-pub judged-spec : {M : Type 1} → statement M
-judged-spec =
+pub judged_spec : {M : Type 1} → statement M
+judged_spec =
     tie.close
     (tie.spec
     (λ c. search rules)
@@ -18,7 +18,7 @@ judged-spec =
     (λ c κs. search rules)
     (λ c. search rules)
     (λ c κs. search rules)
-    (λ c. let a = c.before.before.before.before.args in c.still.ensures ∙ judged-by a.s a.refusal _ c.before.enum_told.given.1)
-    (λ c. let a = c.before.before.before.before.args in c.still2.ensures ∙ judged-by a.s a.refusal _ c.before.enum-told2.given.1)
-    (λ c. let a = c.before.before.before.before.args in c.still3.ensures ∙ judged-by a.s a.refusal _ c.before.enum-told3.given.1)
-    (λ c. let a = c.before.before.before.before.args in c.still4.ensures ∙ judged-by a.s a.refusal _ c.before.enum-told4.given.1))
+    (λ c. let a = c.args in c.still.ensures ∙ judged-by a.s a.refusal _ c.in-Unsupported.is)
+    (λ c. let a = c.args in c.still-in-Bare.ensures ∙ judged-by a.s a.refusal _ c.in-Bare.is)
+    (λ c. let a = c.args in c.still-in-Parenthesized.ensures ∙ judged-by a.s a.refusal _ c.in-Parenthesized.is)
+    (λ c. let a = c.args in c.still-in-Flexible.ensures ∙ judged-by a.s a.refusal _ c.in-Flexible.is))

@@ -10,12 +10,12 @@ use Rattle.clause.proofs.steps.next_by.Tie as tie
 
 goes_on : tie.Need-onward-requires
 goes_on c κs =
-    let a = c.before.before.before.before.before.args in
-    let p = c.before.before.before.before.before.requires in
-    (subst (λ (p : Progress). WhenGoing p (Ready a.book.now a.text.now a.s)) c.enum_told.given.1 p.0, p.1)
+    let a = c.args in
+    let p = c.requires in
+    (subst (λ (p : Progress). WhenGoing p (Ready a.book.now a.text.now a.s)) c.in-Going.is p.0, p.1)
 
-pub next-by-spec : {M : Type 1} → statement M
-next-by-spec =
+pub next_by_spec : {M : Type 1} → statement M
+next_by_spec =
     tie.close
     (tie.spec
     (λ c. search rules)
@@ -24,6 +24,6 @@ next-by-spec =
     (λ c κs. search rules)
     (λ c. search rules)
     (λ c κs. search rules)
-    (λ c. let a = c.before.before.before.before.before.before.args in c.onward.ensures ∙ next-by a.book.now a.text.now a.s _ c.before.enum_told.given.1)
-    (λ c. let a = c.before.before.before.before.before.before.args in c.still.ensures ∙ next-by a.book.now a.text.now a.s _ c.before.enum-told2.given.1)
-    (λ c. let a = c.before.before.before.before.before.before.before.args in c.still2.ensures ∙ next-by a.book.now a.text.now a.s _ c.before.before.progress.given.1))
+    (λ c. let a = c.args in c.onward.ensures ∙ next-by a.book.now a.text.now a.s _ c.in-Going.is)
+    (λ c. let a = c.args in c.still.ensures ∙ next-by a.book.now a.text.now a.s _ c.in-Ended.is)
+    (λ c. let a = c.args in c.still-in-Refused.ensures ∙ next-by a.book.now a.text.now a.s _ c.in-Refused.is))

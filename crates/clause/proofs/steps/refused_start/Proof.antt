@@ -5,10 +5,10 @@ use borrow.Author.Rules.{rules}
 use Rattle.clause.proofs.steps.refused_start.Statement.{statement}
 use Rattle.clause.proofs.steps.refused_start.Tie as tie
 
-pub refused-start-spec : {M : Type 1} → statement M
-refused-start-spec =
+pub refused_start_spec : {M : Type 1} → statement M
+refused_start_spec =
     tie.close
     (tie.spec
     (λ c κs. search rules)
     (λ c κs. search rules)
-    (λ c. c.begun.ensures ∙ rw c.before.no_Header.ensures))
+    (λ c. c.begun.ensures ∙ rw c.no_header.ensures))

@@ -5,14 +5,14 @@ use borrow.Author.Rules.{rules}
 use Rattle.clause.proofs.steps.start_at.Statement.{statement}
 use Rattle.clause.proofs.steps.start_at.Tie as tie
 
-returns : tie.Need-returns
-returns c = c.begun.ensures ∙ rw (sym c.before.before.before.before.skip.ensures.0 ∙ c.before.before.place.given.1)
+returns : tie.Need-returns-in-Past
+returns c = c.begun.ensures ∙ rw (sym c.skip.ensures.0 ∙ c.in-Past.is)
 
-returns-2 : tie.Need-returns-2
-returns-2 c = c.begun2.ensures ∙ rw (sym c.before.before.before.before.skip.ensures.0 ∙ c.before.before.place2.given.1)
+returns-2 : tie.Need-returns-in-OpenAt
+returns-2 c = c.begun-in-OpenAt.ensures ∙ rw (sym c.skip.ensures.0 ∙ c.in-OpenAt.is)
 
-pub start-at-spec : {M : Type 1} → statement M
-start-at-spec =
+pub start_at_spec : {M : Type 1} → statement M
+start_at_spec =
     tie.close
     (tie.spec
     (λ c κs. search rules)

@@ -9,27 +9,27 @@ use Rattle.clause.proofs.Reading.{start_is, wrong-book}
 use Rattle.clause.proofs.steps.start_under.Statement.{statement}
 use Rattle.clause.proofs.steps.start_under.Tie as tie
 
-returns : tie.Need-returns
+returns : tie.Need-returns-in-Bad
 unfolding start_of
-returns c = c.refused-start.ensures ∙ rw (sym c.before.before.before.before.check-text.ensures ∙ c.before.before.refusal.given.1)
+returns c = c.refused_start.ensures ∙ rw (sym c.check_text.ensures ∙ c.in-Bad.is)
 
-returns-2 : tie.Need-returns-2
+returns-2 : tie.Need-returns-in-Refused
 unfolding start_of
 returns-2 c =
-    c.refused-start2.ensures ∙ rw (sym c.before.before.before.before.before.before.check-text.ensures ∙ c.before.before.before.before.enum_told.given.1)
-    (wrong-book _ _ _ _ (sym (ap book_gives c.before.before.verdict.given.1) ∙ c.before.before.before.before.before.before.before.before.before.requires.judged))
+    c.refused_start-in-Refused.ensures ∙ rw (sym c.check_text.ensures ∙ c.in-Fine.is)
+    (wrong-book _ _ _ _ (sym (ap book_gives c.in-Refused.is) ∙ c.requires.judged))
 
-returns-3 : tie.Need-returns-3
+returns-3 : tie.Need-returns-in-Valid
 unfolding start_of
 returns-3 c =
-    let s = c.before.before.before.before.before.before.before.before in
-    let v = valid-book _ (sym (ap book_gives c.before.enum-told2.given.1) ∙ s.requires.judged) in
+    let s = c.before.before.before.before.before.before in
+    let v = valid-book _ (sym (ap book_gives c.in-Valid.is) ∙ s.requires.judged) in
     let a = s.args in
-    c.start-at.ensures ∙ start_is a.book.now a.text.now a.slots 0 _ (s.requires.known v)
-    ∙ rw (sym c.before.before.before.before.before.check-text.ensures ∙ c.before.before.before.enum_told.given.1, v)
+    c.start_at.ensures ∙ start_is a.book.now a.text.now a.slots 0 _ (s.requires.known v)
+    ∙ rw (sym c.check_text.ensures ∙ c.in-Fine.is, v)
 
-pub start-under-spec : {M : Type 1} → statement M
-start-under-spec =
+pub start_under_spec : {M : Type 1} → statement M
+start_under_spec =
     tie.close
     (tie.spec
     (λ c κs. search rules)

@@ -4,9 +4,9 @@ use borrow.Author.Rules.{rules}
 use Rattle.clause.proofs.steps.still.Statement.{statement}
 use Rattle.clause.proofs.steps.still.Tie as tie
 
-pub still-spec : {M : Type 1} → statement M
-still-spec =
+pub still_spec : {M : Type 1} → statement M
+still_spec =
     tie.close
     (tie.spec
     (λ c κs. search rules)
-    (λ c. rw c.zero-record.ensures))
+    (λ c. rw c.zero_record.ensures))

@@ -5,10 +5,10 @@ use borrow.Author.Rules.{rules}
 use Rattle.clause.proofs.steps.stop_before.Statement.{statement}
 use Rattle.clause.proofs.steps.stop_before.Tie as tie
 
-pub stop-before-spec : {M : Type 1} → statement M
-stop-before-spec =
+pub stop_before_spec : {M : Type 1} → statement M
+stop_before_spec =
     tie.close
     (tie.spec
     (λ c κs. search rules)
-    (λ c. rw (sym c.before.goes_on.ensures ∙ c.if1.true))
-    (λ c. rw (sym c.before.goes_on.ensures ∙ c.if1.false)))
+    (λ c. rw (sym c.goes_on.ensures ∙ c.if-goes_on.true))
+    (λ c. rw (sym c.goes_on.ensures ∙ c.if-goes_on.false)))

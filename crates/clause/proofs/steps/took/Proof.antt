@@ -8,24 +8,24 @@ use Rattle.clause.specs.Steps.{behind, separated_of}
 use Rattle.clause.proofs.steps.took.Statement.{statement}
 use Rattle.clause.proofs.steps.took.Tie as tie
 
-returns-2 : tie.Need-returns-2
+returns-2 : tie.Need-returns-in-Then
 returns-2 c =
-    let a = c.before.before.before.before.before.before.before.before.before.before.args in
-    rw (ne_eqb _ _ c.before.before.before.before.before.before.before.if1.false, ← c.before.before.before.before.before.clean-behind.ensures)
-    (c.gone.ensures ∙ ap (behind (length a.text.now) a.s a.clause _) (sym (ap separated_of c.before.before.comma.given.1) ∙ c.before.before.before.before.separation.ensures))
+    let a = c.args in
+    rw (ne_eqb _ _ c.if-s-eq0.false, ← c.clean_behind-clean.ensures)
+    (c.gone.ensures ∙ ap (behind (length a.text.now) a.s a.clause _) (sym (ap separated_of c.in-Then.is) ∙ c.separation.ensures))
 
-returns-3 : tie.Need-returns-3
+returns-3 : tie.Need-returns-in-OpenAt
 returns-3 c =
-    let a = c.before.before.before.before.before.before.before.before.before.before.args in
-    rw (ne_eqb _ _ c.before.before.before.before.before.before.before.if1.false, ← c.before.before.before.before.before.clean-behind.ensures)
-    (c.stopped2.ensures ∙ ap (behind (length a.text.now) a.s a.clause _) (sym (ap separated_of c.before.before.place.given.1) ∙ c.before.before.before.before.separation.ensures))
+    let a = c.args in
+    rw (ne_eqb _ _ c.if-s-eq0.false, ← c.clean_behind-clean.ensures)
+    (c.stopped-in-OpenAt.ensures ∙ ap (behind (length a.text.now) a.s a.clause _) (sym (ap separated_of c.in-OpenAt.is) ∙ c.separation.ensures))
 
-pub took-spec : {M : Type 1} → statement M
-took-spec =
+pub took_spec : {M : Type 1} → statement M
+took_spec =
     tie.close
     (tie.spec
     (λ c κs. search rules)
-    (λ c. rw (eq-eqb _ _ c.before.if1.true) c.stopped.ensures)
+    (λ c. rw (eq-eqb _ _ c.if-s-eq0.true) c.stopped.ensures)
     (λ c κs. search rules)
     (λ c κs. search rules)
     (λ c. search rules)

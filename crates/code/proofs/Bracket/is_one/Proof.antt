@@ -4,5 +4,5 @@ use borrow.Author.Rules.{rules}
 use Rattle.code.proofs.Bracket.is_one.Statement.{statement}
 use Rattle.code.proofs.Bracket.is_one.Tie as tie
 
-pub is-one-spec : {M : Type 1} → statement M
-is-one-spec = tie.close (tie.spec (λ c κs. search rules) (λ c κs. search rules) (λ c. rw (c.before.opens.ensures, c.closes.ensures)))
+pub is_one_spec : {M : Type 1} → statement M
+is_one_spec = tie.close (tie.spec (λ c κs. search rules) (λ c κs. search rules) (λ c. rw (c.opens.ensures, c.closes.ensures)))

@@ -6,7 +6,7 @@ use Rattle.code.specs.Bracket.{closing_of}
 use Rattle.code.proofs.Bracket.partner.Statement.{statement}
 use Rattle.code.proofs.Bracket.partner.Tie as tie
 
-pub partner-spec : {M : Type 1} → statement M
-partner-spec =
+pub partner_spec : {M : Type 1} → statement M
+partner_spec =
     tie.close
-    (tie.spec (λ c κs. search rules) (λ c κs. search rules) (λ c. c.closing.ensures ∙ ap closing_of c.before.opened-by.ensures))
+    (tie.spec (λ c κs. search rules) (λ c κs. search rules) (λ c. c.closing.ensures ∙ ap closing_of c.opened_by.ensures))

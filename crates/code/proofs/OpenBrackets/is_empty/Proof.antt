@@ -7,4 +7,4 @@ use Rattle.code.proofs.OpenBrackets.is_empty.Tie as tie
 
 pub is_empty_spec : {M : Type 1} → statement M
 unfolding open_of
-is_empty_spec = tie.close (tie.spec (λ c. empty-stacked c.before.args.self.closing c.before.args.self.depth))
+is_empty_spec = tie.close (tie.spec (λ c. empty-stacked c.args.self.closing c.args.self.depth))

@@ -14,5 +14,5 @@ pop_spec =
     tie.close
     (tie.spec
     (λ c. search rules)
-    (λ c. rw (stacked-top c.before.args.self.closing c.before.args.self.depth c.if1.true))
-    (λ c. let e : c.before.args.self.depth ≡ 0 = omega arith in rw e))
+    (λ c. rw (stacked-top c.args.self.closing c.args.self.depth c.if-at-gt0.true))
+    (λ c. let e : c.args.self.depth ≡ 0 = omega arith in rw e))

@@ -8,23 +8,23 @@ use Rattle.code.proofs.Laws.{bang-line, bang-code}
 use Rattle.code.proofs.code.bang_at.Statement.{statement}
 use Rattle.code.proofs.code.bang_at.Tie as tie
 
-returns : tie.Need-returns
+returns : tie.Need-returns-then-comment
 returns c =
-    let b : tie.After-is-fortran = c.before.before in
-    let a = b.before.before.before.args in
-    let e = rw (b.is-fortran.ensures, b.before.byte_at.ensures) at c.before.if1.true in
-    let r = c.line-end.ensures.0 in
+    let b : tie.After-is_fortran = c.before.before in
+    let a = b.args in
+    let e = rw (b.is_fortran.ensures, b.byte_at-next.ensures) at c.if-comment.true in
+    let r = c.line_end.ensures.0 in
     (rw (bang-line a.style a.text.now a.at e) (ap Hidden (omega arith)), omega arith)
 
-returns-2 : tie.Need-returns-2
+returns-2 : tie.Need-returns
 returns-2 c =
-    let b : tie.After-is-fortran = c.before in
-    let a = b.before.before.before.args in
-    let e = rw (b.is-fortran.ensures, b.before.byte_at.ensures) at c.if1.false in
+    let b : tie.After-is_fortran = c.before in
+    let a = b.args in
+    let e = rw (b.is_fortran.ensures, b.byte_at-next.ensures) at c.if-comment.false in
     (sym (bang-code a.style a.text.now a.at e), tt)
 
-pub bang-at-spec : {M : Type 1} → statement M
-bang-at-spec =
+pub bang_at_spec : {M : Type 1} → statement M
+bang_at_spec =
     tie.close
     (tie.spec
     (λ c. search rules)

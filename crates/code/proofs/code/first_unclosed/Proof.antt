@@ -11,53 +11,53 @@ use Rattle.code.proofs.WalkLaws.{fault-code, plain_code}
 use Rattle.code.proofs.code.first_unclosed.Statement.{statement}
 use Rattle.code.proofs.code.first_unclosed.Tie as tie
 
-abbrev invariant-loop : tie.invariant-loop
-invariant-loop text from style i₀ i = (i ≤ length text) × ((scan_at style text i).fault ≡ (scan_at style text from).fault)
+abbrev invariant-loop-i : tie.invariant-loop-i
+invariant-loop-i text from style i₀ i = (i ≤ length text) × ((scan_at style text i).fault ≡ (scan_at style text from).fault)
 
-abbrev decreases-loop : tie.decreases-loop
-decreases-loop text from style i₀ i = length text - i
+abbrev decreases-loop-i : tie.decreases-loop-i
+decreases-loop-i text from style i₀ i = length text - i
 
-loop-again : tie.Need-loop-preserved invariant-loop decreases-loop
+loop-again : tie.Need-loop-i-preserved-then-is_plain invariant-loop-i decreases-loop-i
 loop-again c =
-    let p : tie.After-is-plain invariant-loop decreases-loop = c.before in
-    let l : tie.In-loop invariant-loop decreases-loop = p.before.before in
-    (omega arith, sym (fault-code _ _ _ l.loop-test.true (plain_code _ _ _ l.loop-test.true (sym p.is_plain.ensures ∙ c.if1.true))) ∙ l.before.loop.invariant.1)
+    let p : tie.After-is_plain invariant-loop-i decreases-loop-i = c.before in
+    let l : tie.In-loop-i invariant-loop-i decreases-loop-i = p.before.before in
+    (omega arith, sym (fault-code _ _ _ l.loop-i-test.true (plain_code _ _ _ l.loop-i-test.true (sym p.is_plain.ensures ∙ c.if-is_plain.true))) ∙ l.loop-i.invariant.1)
 
-loop-again-2 : tie.Need-loop-preserved-2 invariant-loop decreases-loop
+loop-again-2 : tie.Need-loop-i-preserved-in-Code invariant-loop-i decreases-loop-i
 loop-again-2 c =
-    let p : tie.After-piece-at invariant-loop decreases-loop = c.before.before in
-    let l : tie.In-loop invariant-loop decreases-loop = p.before.before.before.before in
-    let e = sym p.piece-at.ensures.0 ∙ c.enum_told.given.1 in
-    (omega arith, sym (ap (λ (s : Scan). s.fault) (scan-code _ _ _ l.loop-test.true e)) ∙ l.before.loop.invariant.1)
+    let p : tie.After-piece_at invariant-loop-i decreases-loop-i = c.before in
+    let l : tie.In-loop-i invariant-loop-i decreases-loop-i = p.before.before.before.before in
+    let e = sym p.piece_at.ensures.0 ∙ c.in-Code.is in
+    (omega arith, sym (ap (λ (s : Scan). s.fault) (scan-code _ _ _ l.loop-i-test.true e)) ∙ l.loop-i.invariant.1)
 
-loop-again-3 : tie.Need-loop-preserved-3 invariant-loop decreases-loop
+loop-again-3 : tie.Need-loop-i-preserved invariant-loop-i decreases-loop-i
 loop-again-3 c =
-    let p : tie.After-piece-at invariant-loop decreases-loop = c.before.before.before in
-    let l : tie.In-loop invariant-loop decreases-loop = p.before.before.before.before in
-    let e = sym p.piece-at.ensures.0 ∙ c.before.n.given.1 in
-    let f = rw c.before.n.given.1 at p.piece-at.ensures.1 in
-    (omega arith, sym (ap (λ (s : Scan). s.fault) (scan-hidden _ _ _ _ l.loop-test.true e f.0)) ∙ l.before.loop.invariant.1)
+    let p : tie.After-piece_at invariant-loop-i decreases-loop-i = c.before in
+    let l : tie.In-loop-i invariant-loop-i decreases-loop-i = p.before.before.before.before in
+    let e = sym p.piece_at.ensures.0 ∙ c.in-Hidden.is in
+    let f = rw c.in-Hidden.is at p.piece_at.ensures.1 in
+    (omega arith, sym (ap (λ (s : Scan). s.fault) (scan-hidden _ _ _ _ l.loop-i-test.true e f.0)) ∙ l.loop-i.invariant.1)
 
-returns : tie.Need-returns invariant-loop decreases-loop
+returns : tie.Need-returns-in-OpenQuote invariant-loop-i decreases-loop-i
 returns c =
-    let p : tie.After-piece-at invariant-loop decreases-loop = c.before.before in
-    let l : tie.In-loop invariant-loop decreases-loop = p.before.before.before.before in
-    let e = sym p.piece-at.ensures.0 ∙ c.enum-told2.given.1 in
-    sym (ap (λ (s : Scan). s.fault) (scan-quote _ _ _ l.loop-test.true e)) ∙ l.before.loop.invariant.1
+    let p : tie.After-piece_at invariant-loop-i decreases-loop-i = c.before in
+    let l : tie.In-loop-i invariant-loop-i decreases-loop-i = p.before.before.before.before in
+    let e = sym p.piece_at.ensures.0 ∙ c.in-OpenQuote.is in
+    sym (ap (λ (s : Scan). s.fault) (scan-quote _ _ _ l.loop-i-test.true e)) ∙ l.loop-i.invariant.1
 
-returns-2 : tie.Need-returns-2 invariant-loop decreases-loop
+returns-2 : tie.Need-returns-in-OpenComment invariant-loop-i decreases-loop-i
 returns-2 c =
-    let p : tie.After-piece-at invariant-loop decreases-loop = c.before.before in
-    let l : tie.In-loop invariant-loop decreases-loop = p.before.before.before.before in
-    let e = sym p.piece-at.ensures.0 ∙ c.enum-told3.given.1 in
-    sym (ap (λ (s : Scan). s.fault) (scan-comment _ _ _ l.loop-test.true e)) ∙ l.before.loop.invariant.1
+    let p : tie.After-piece_at invariant-loop-i decreases-loop-i = c.before in
+    let l : tie.In-loop-i invariant-loop-i decreases-loop-i = p.before.before.before.before in
+    let e = sym p.piece_at.ensures.0 ∙ c.in-OpenComment.is in
+    sym (ap (λ (s : Scan). s.fault) (scan-comment _ _ _ l.loop-i-test.true e)) ∙ l.loop-i.invariant.1
 
-pub first-unclosed-spec : {M : Type 1} → statement M
-first-unclosed-spec =
+pub first_unclosed_spec : {M : Type 1} → statement M
+first_unclosed_spec =
     tie.close
     (tie.spec
-    invariant-loop
-    decreases-loop
+    invariant-loop-i
+    decreases-loop-i
     (λ c. (omega arith, refl))
     (λ c. omega arith)
     (λ c κs. search rules)
@@ -70,11 +70,11 @@ first-unclosed-spec =
     (λ c. omega arith)
     loop-again-2
     (λ c. search rules)
-    (λ c. omega (arith, rw c.before.n.given.1 at c.before.before.before.piece-at.ensures.1))
-    (λ c. omega (arith, rw c.before.n.given.1 at c.before.before.before.piece-at.ensures.1))
+    (λ c. omega (arith, rw c.in-Hidden.is at c.piece_at.ensures.1))
+    (λ c. omega (arith, rw c.in-Hidden.is at c.piece_at.ensures.1))
     loop-again-3
     (λ c. search rules)
     returns
     (λ c. search rules)
     returns-2
-    (λ c. sym (ap (λ (s : Scan). s.fault) (scan-end _ _ _ c.loop-test.false)) ∙ c.before.loop.invariant.1))
+    (λ c. sym (ap (λ (s : Scan). s.fault) (scan-end _ _ _ c.loop-i-test.false)) ∙ c.loop-i.invariant.1))

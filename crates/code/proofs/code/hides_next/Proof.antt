@@ -9,22 +9,22 @@ use Rattle.code.specs.Code.{has_escapes}
 use Rattle.code.proofs.code.hides_next.Statement.{statement}
 use Rattle.code.proofs.code.hides_next.Tie as tie
 
-returns : tie.Need-returns
+returns : tie.Need-returns-then-escapes-text
 returns c =
-    let h : tie.After-has-escapes = c.before.before in
-    let a = h.before.before.args in
-    let e : (has_escapes a.style && eqb (get_or a.text.now a.at 0) 92) ≡ true = rw h.has-escapes.ensures at c.if1.true in
+    let h : tie.After-has_escapes-escapes = c.before.before in
+    let a = h.args in
+    let e : (has_escapes a.style && eqb (get_or a.text.now a.at 0) 92) ≡ true = rw h.has_escapes-escapes.ensures at c.if-escapes-text.true in
     rw e refl
 
-returns-2 : tie.Need-returns-2
+returns-2 : tie.Need-returns
 returns-2 c =
-    let h : tie.After-has-escapes = c.before.before.before in
-    let a = h.before.before.args in
-    let e : (has_escapes a.style && eqb (get_or a.text.now a.at 0) 92) ≡ false = rw h.has-escapes.ensures at c.before.if1.false in
-    rw (e, c.is-doubled.ensures) refl
+    let h : tie.After-has_escapes-escapes = c.before.before.before in
+    let a = h.args in
+    let e : (has_escapes a.style && eqb (get_or a.text.now a.at 0) 92) ≡ false = rw h.has_escapes-escapes.ensures at c.if-escapes-text.false in
+    rw (e, c.is_doubled.ensures) refl
 
-pub hides-next-spec : {M : Type 1} → statement M
-hides-next-spec =
+pub hides_next_spec : {M : Type 1} → statement M
+hides_next_spec =
     tie.close
     (tie.spec
     (λ c κs. search rules)

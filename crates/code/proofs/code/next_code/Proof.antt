@@ -12,71 +12,71 @@ use Rattle.code.proofs.WalkLaws.{plain_code}
 use Rattle.code.proofs.code.next_code.Statement.{statement}
 use Rattle.code.proofs.code.next_code.Tie as tie
 
-abbrev invariant-loop : tie.invariant-loop
-invariant-loop text from style i₀ i = (from ≤ i) × (i ≤ length text) × ((scan_at style text i).codes ≡ (scan_at style text from).codes)
+abbrev invariant-loop-i : tie.invariant-loop-i
+invariant-loop-i text from style i₀ i = (from ≤ i) × (i ≤ length text) × ((scan_at style text i).codes ≡ (scan_at style text from).codes)
 
-abbrev decreases-loop : tie.decreases-loop
-decreases-loop text from style i₀ i = length text - i
+abbrev decreases-loop-i : tie.decreases-loop-i
+decreases-loop-i text from style i₀ i = length text - i
 
 -- a byte of code at the place
-here : (c : tie.In-loop invariant-loop decreases-loop) → let a = c.before.before.before.args in
-    piece a.style (drop c.before.loop.i a.text.now) ≡ Code → (scan_at a.style a.text.now a.from).codes ≡ onward a.style a.text.now c.before.loop.i
+here : (c : tie.In-loop-i invariant-loop-i decreases-loop-i) → let a = c.args in
+    piece a.style (drop c.loop-i.i a.text.now) ≡ Code → (scan_at a.style a.text.now a.from).codes ≡ onward a.style a.text.now c.loop-i.i
 here c e =
-    let h = c.loop-test.true in
-    rw (onward-code, h) (sym c.before.loop.invariant.2 ∙ ap (λ (s : Scan). s.codes) (scan-code _ _ _ h e))
+    let h = c.loop-i-test.true in
+    rw (onward-code, h) (sym c.loop-i.invariant.2 ∙ ap (λ (s : Scan). s.codes) (scan-code _ _ _ h e))
 
-returns : tie.Need-returns invariant-loop decreases-loop
+returns : tie.Need-returns-then-is_plain invariant-loop-i decreases-loop-i
 returns c =
-    let l : tie.In-loop invariant-loop decreases-loop = c.before.before.before in
-    (here l (plain_code _ _ _ l.loop-test.true (sym c.before.is_plain.ensures ∙ c.if1.true)), omega arith)
+    let l : tie.In-loop-i invariant-loop-i decreases-loop-i = c.before.before.before in
+    (here l (plain_code _ _ _ l.loop-i-test.true (sym c.is_plain.ensures ∙ c.if-is_plain.true)), omega arith)
 
-returns-2 : tie.Need-returns-2 invariant-loop decreases-loop
+returns-2 : tie.Need-returns-in-Code invariant-loop-i decreases-loop-i
 returns-2 c =
-    let p : tie.After-piece-at invariant-loop decreases-loop = c.before.before in
-    (here p.before.before.before.before (sym p.piece-at.ensures.0 ∙ c.enum_told.given.1), omega arith)
+    let p : tie.After-piece_at invariant-loop-i decreases-loop-i = c.before in
+    (here p.before.before.before.before (sym p.piece_at.ensures.0 ∙ c.in-Code.is), omega arith)
 
-loop-again : tie.Need-loop-preserved invariant-loop decreases-loop
+loop-again : tie.Need-loop-i-preserved invariant-loop-i decreases-loop-i
 loop-again c =
-    let p : tie.After-piece-at invariant-loop decreases-loop = c.before.before.before in
-    let l : tie.In-loop invariant-loop decreases-loop = p.before.before.before.before in
-    let e = sym p.piece-at.ensures.0 ∙ c.before.n.given.1 in
-    let f = rw c.before.n.given.1 at p.piece-at.ensures.1 in
-    (omega arith, omega arith, sym (ap (λ (s : Scan). s.codes) (scan-hidden _ _ _ _ l.loop-test.true e f.0)) ∙ l.before.loop.invariant.2)
+    let p : tie.After-piece_at invariant-loop-i decreases-loop-i = c.before in
+    let l : tie.In-loop-i invariant-loop-i decreases-loop-i = p.before.before.before.before in
+    let e = sym p.piece_at.ensures.0 ∙ c.in-Hidden.is in
+    let f = rw c.in-Hidden.is at p.piece_at.ensures.1 in
+    (omega arith, omega arith, sym (ap (λ (s : Scan). s.codes) (scan-hidden _ _ _ _ l.loop-i-test.true e f.0)) ∙ l.loop-i.invariant.2)
 
-returns-3 : tie.Need-returns-3 invariant-loop decreases-loop
+returns-3 : tie.Need-returns-in-OpenQuote invariant-loop-i decreases-loop-i
 returns-3 c =
-    let p : tie.After-piece-at invariant-loop decreases-loop = c.before.before in
-    let l : tie.In-loop invariant-loop decreases-loop = p.before.before.before.before in
-    let e = sym p.piece-at.ensures.0 ∙ c.enum-told2.given.1 in
-    let a = l.before.before.before.args in (
-      sym l.before.loop.invariant.2 ∙ ap (λ (s : Scan). s.codes) (scan-quote _ _ _ l.loop-test.true e)
+    let p : tie.After-piece_at invariant-loop-i decreases-loop-i = c.before in
+    let l : tie.In-loop-i invariant-loop-i decreases-loop-i = p.before.before.before.before in
+    let e = sym p.piece_at.ensures.0 ∙ c.in-OpenQuote.is in
+    let a = l.args in (
+      sym l.loop-i.invariant.2 ∙ ap (λ (s : Scan). s.codes) (scan-quote _ _ _ l.loop-i-test.true e)
           ∙ sym (onward-end a.style a.text.now (length a.text.now) (omega arith)),
       omega arith,
     )
 
-returns-4 : tie.Need-returns-4 invariant-loop decreases-loop
+returns-4 : tie.Need-returns-in-OpenComment invariant-loop-i decreases-loop-i
 returns-4 c =
-    let p : tie.After-piece-at invariant-loop decreases-loop = c.before.before in
-    let l : tie.In-loop invariant-loop decreases-loop = p.before.before.before.before in
-    let e = sym p.piece-at.ensures.0 ∙ c.enum-told3.given.1 in
-    let a = l.before.before.before.args in (
-      sym l.before.loop.invariant.2 ∙ ap (λ (s : Scan). s.codes) (scan-comment _ _ _ l.loop-test.true e)
+    let p : tie.After-piece_at invariant-loop-i decreases-loop-i = c.before in
+    let l : tie.In-loop-i invariant-loop-i decreases-loop-i = p.before.before.before.before in
+    let e = sym p.piece_at.ensures.0 ∙ c.in-OpenComment.is in
+    let a = l.args in (
+      sym l.loop-i.invariant.2 ∙ ap (λ (s : Scan). s.codes) (scan-comment _ _ _ l.loop-i-test.true e)
           ∙ sym (onward-end a.style a.text.now (length a.text.now) (omega arith)),
       omega arith,
     )
 
-returns-5 : tie.Need-returns-5 invariant-loop decreases-loop
+returns-5 : tie.Need-returns invariant-loop-i decreases-loop-i
 returns-5 c =
-    let l = c.before.loop in
-    let a = c.before.before.before.args in
-    (sym l.invariant.2 ∙ ap (λ (s : Scan). s.codes) (scan-end _ _ _ c.loop-test.false) ∙ sym (onward-end a.style a.text.now l.i c.loop-test.false), omega arith)
+    let l = c.loop-i in
+    let a = c.args in
+    (sym l.invariant.2 ∙ ap (λ (s : Scan). s.codes) (scan-end _ _ _ c.loop-i-test.false) ∙ sym (onward-end a.style a.text.now l.i c.loop-i-test.false), omega arith)
 
-pub next-code-spec : {M : Type 1} → statement M
-next-code-spec =
+pub next_code_spec : {M : Type 1} → statement M
+next_code_spec =
     tie.close
     (tie.spec
-    invariant-loop
-    decreases-loop
+    invariant-loop-i
+    decreases-loop-i
     (λ c. (omega arith, omega arith, refl))
     (λ c. omega arith)
     (λ c κs. search rules)
@@ -85,8 +85,8 @@ next-code-spec =
     (λ c. search rules)
     returns-2
     (λ c. search rules)
-    (λ c. omega (arith, rw c.before.n.given.1 at c.before.before.before.piece-at.ensures.1))
-    (λ c. omega (arith, rw c.before.n.given.1 at c.before.before.before.piece-at.ensures.1))
+    (λ c. omega (arith, rw c.in-Hidden.is at c.piece_at.ensures.1))
+    (λ c. omega (arith, rw c.in-Hidden.is at c.piece_at.ensures.1))
     loop-again
     (λ c. search rules)
     returns-3

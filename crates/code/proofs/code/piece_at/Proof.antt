@@ -7,35 +7,35 @@ use Rattle.code.proofs.Laws.{piece_is}
 use Rattle.code.proofs.code.piece_at.Statement.{statement}
 use Rattle.code.proofs.code.piece_at.Tie as tie
 
-returns : tie.Need-returns
+returns : tie.Need-returns-then-b
 returns c =
     let s : tie.Start = c.before.before.before.before in
     let p = piece_is s.args.style s.args.text.now s.args.at s.requires in
-    (c.quote-at.ensures.0 ∙ sym (p ∙ rw c.before.if1.true), c.quote-at.ensures.1)
+    (c.quote_at.ensures.0 ∙ sym (p ∙ rw c.if-b.true), c.quote_at.ensures.1)
 
-returns-2 : tie.Need-returns-2
+returns-2 : tie.Need-returns-then-b-eq47
 returns-2 c =
-    let e : tie.Else1 = c.before.before in
+    let e : tie.Else-b = c.before.before in
     let s : tie.Start = e.before.before.before in
     let p = piece_is s.args.style s.args.text.now s.args.at s.requires in
-    (c.slash-at.ensures.0 ∙ sym (p ∙ rw (e.if1.false, eq-eqb _ _ c.before.if2.true)), c.slash-at.ensures.1)
+    (c.slash_at.ensures.0 ∙ sym (p ∙ rw (e.if-b.false, eq-eqb _ _ c.if-b-eq47.true)), c.slash_at.ensures.1)
 
-returns-3 : tie.Need-returns-3
+returns-3 : tie.Need-returns-then-b-eq33
 returns-3 c =
-    let f : tie.Else2 = c.before.before in
+    let f : tie.Else-b-eq47 = c.before.before in
     let s : tie.Start = f.before.before.before.before in
     let p = piece_is s.args.style s.args.text.now s.args.at s.requires in
-    (c.bang-at.ensures.0 ∙ sym (p ∙ rw (f.before.if1.false, ne_eqb _ _ f.if2.false, eq-eqb _ _ c.before.if3.true)), c.bang-at.ensures.1)
+    (c.bang_at.ensures.0 ∙ sym (p ∙ rw (f.if-b.false, ne_eqb _ _ f.if-b-eq47.false, eq-eqb _ _ c.if-b-eq33.true)), c.bang_at.ensures.1)
 
-returns-4 : tie.Need-returns-4
+returns-4 : tie.Need-returns
 returns-4 c =
-    let f : tie.Else2 = c.before in
+    let f : tie.Else-b-eq47 = c.before in
     let s : tie.Start = f.before.before.before.before in
     let p = piece_is s.args.style s.args.text.now s.args.at s.requires in
-    (sym (p ∙ rw (f.before.if1.false, ne_eqb _ _ f.if2.false, ne_eqb _ _ c.if3.false)), tt)
+    (sym (p ∙ rw (f.if-b.false, ne_eqb _ _ f.if-b-eq47.false, ne_eqb _ _ c.if-b-eq33.false)), tt)
 
-pub piece-at-spec : {M : Type 1} → statement M
-piece-at-spec =
+pub piece_at_spec : {M : Type 1} → statement M
+piece_at_spec =
     tie.close
     (tie.spec
     (λ c. search rules)

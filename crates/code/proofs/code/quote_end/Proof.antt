@@ -10,43 +10,43 @@ use Rattle.code.proofs.Laws.{literal-both, literal-closed, literal-plain, litera
 use Rattle.code.proofs.code.quote_end.Statement.{statement}
 use Rattle.code.proofs.code.quote_end.Tie as tie
 
-abbrev invariant-loop : tie.invariant-loop
-invariant-loop text from q style i₀ i =
+abbrev invariant-loop-i : tie.invariant-loop-i
+invariant-loop-i text from q style i₀ i =
     (from ≤ i) × (i ≤ length text + 1) × (more i (literal style q 0 (drop i text)) ≡ more from (literal style q 0 (drop from text)))
 
-abbrev decreases-loop : tie.decreases-loop
-decreases-loop text from q style i₀ i = length text - i
+abbrev decreases-loop-i : tie.decreases-loop-i
+decreases-loop-i text from q style i₀ i = length text - i
 
-loop-again : tie.Need-loop-preserved invariant-loop decreases-loop
+loop-again : tie.Need-loop-i-preserved-then-hides_next invariant-loop-i decreases-loop-i
 loop-again c =
-    let d : tie.After-hides-next invariant-loop decreases-loop = c.before in
-    let l : tie.In-loop invariant-loop decreases-loop = d.before in
-    let a = l.before.before.before.args in
-    let n = sym d.hides-next.ensures ∙ c.if1.true in
-    (omega arith, omega arith, sym (literal-both a.style a.q a.text.now _ l.loop-test.true n) ∙ l.before.loop.invariant.2)
+    let d : tie.After-hides_next invariant-loop-i decreases-loop-i = c.before in
+    let l : tie.In-loop-i invariant-loop-i decreases-loop-i = d.before in
+    let a = l.args in
+    let n = sym d.hides_next.ensures ∙ c.if-hides_next.true in
+    (omega arith, omega arith, sym (literal-both a.style a.q a.text.now _ l.loop-i-test.true n) ∙ l.loop-i.invariant.2)
 
-returns : tie.Need-returns invariant-loop decreases-loop
+returns : tie.Need-returns-then-text-i invariant-loop-i decreases-loop-i
 returns c =
-    let d : tie.After-hides-next invariant-loop decreases-loop = c.before.before.before in
-    let l : tie.In-loop invariant-loop decreases-loop = d.before in
-    let a = l.before.before.before.args in
-    let n = sym d.hides-next.ensures ∙ c.before.before.if1.false in
-    (sym (literal-closed a.style a.q a.text.now _ l.loop-test.true n (eq-eqb _ _ c.if2.true)) ∙ l.before.loop.invariant.2, omega arith)
+    let d : tie.After-hides_next invariant-loop-i decreases-loop-i = c.before.before.before in
+    let l : tie.In-loop-i invariant-loop-i decreases-loop-i = d.before in
+    let a = l.args in
+    let n = sym d.hides_next.ensures ∙ c.if-hides_next.false in
+    (sym (literal-closed a.style a.q a.text.now _ l.loop-i-test.true n (eq-eqb _ _ c.if-text-i.true)) ∙ l.loop-i.invariant.2, omega arith)
 
-loop-again-2 : tie.Need-loop-preserved-2 invariant-loop decreases-loop
+loop-again-2 : tie.Need-loop-i-preserved invariant-loop-i decreases-loop-i
 loop-again-2 c =
-    let d : tie.After-hides-next invariant-loop decreases-loop = c.before.before.before in
-    let l : tie.In-loop invariant-loop decreases-loop = d.before in
-    let a = l.before.before.before.args in
-    let n = sym d.hides-next.ensures ∙ c.before.before.if1.false in
-    (omega arith, omega arith, sym (literal-plain a.style a.q a.text.now _ l.loop-test.true n (ne_eqb _ _ c.if2.false)) ∙ l.before.loop.invariant.2)
+    let d : tie.After-hides_next invariant-loop-i decreases-loop-i = c.before.before.before in
+    let l : tie.In-loop-i invariant-loop-i decreases-loop-i = d.before in
+    let a = l.args in
+    let n = sym d.hides_next.ensures ∙ c.if-hides_next.false in
+    (omega arith, omega arith, sym (literal-plain a.style a.q a.text.now _ l.loop-i-test.true n (ne_eqb _ _ c.if-text-i.false)) ∙ l.loop-i.invariant.2)
 
-pub quote-end-spec : {M : Type 1} → statement M
-quote-end-spec =
+pub quote_end_spec : {M : Type 1} → statement M
+quote_end_spec =
     tie.close
     (tie.spec
-    invariant-loop
-    decreases-loop
+    invariant-loop-i
+    decreases-loop-i
     (λ c. (omega arith, omega arith, refl))
     (λ c κs. omega arith)
     (λ c. omega arith)
@@ -58,4 +58,4 @@ quote-end-spec =
     (λ c. omega arith)
     (λ c. omega arith)
     loop-again-2
-    (λ c. (sym (literal-end _ _ _ _ c.loop-test.false) ∙ c.before.loop.invariant.2, tt)))
+    (λ c. (sym (literal-end _ _ _ _ c.loop-i-test.false) ∙ c.loop-i.invariant.2, tt)))

@@ -16,47 +16,47 @@ use Rattle.code.proofs.code.slash_at.Statement.{statement}
 use Rattle.code.proofs.code.slash_at.Tie as tie
 
 -- the byte that follows stands inside the text where it is a given one
-block-at-requires : tie.Need-block-at-requires
+block-at-requires : tie.Need-block_at-requires
 block-at-requires c κs =
-    let a = c.before.before.before.args in
-    let h = inside a.text.now (a.at + 1) 42 (omega arith) (sym c.before.byte_at.ensures ∙ c.if1.true) in
+    let a = c.args in
+    let h = inside a.text.now (a.at + 1) 42 (omega arith) (sym c.byte_at-next.ensures ∙ c.if-next-eq42.true) in
     omega arith
 
 -- the test of a line comment, in the text's own byte
-line : (c : tie.Then2) → let a = c.before.before.before.before.before.args in
+line : (c : tie.Then-comment) → let a = c.args in
     (is_c_like a.style && eqb (get_or a.text.now (a.at + 1) 0) 47) ≡ true
-line c = rw (c.before.is-c-like.ensures, c.before.before.before.byte_at.ensures) at c.if2.true
+line c = rw (c.is_c_like.ensures, c.byte_at-next.ensures) at c.if-comment.true
 
-line-end-requires : tie.Need-line-end-requires
+line-end-requires : tie.Need-line_end-requires
 line-end-requires c κs =
-    let a = c.before.before.before.before.before.args in
+    let a = c.args in
     let h = inside a.text.now (a.at + 1) 47 (omega arith) (eqb-true _ _ (and_right (is_c_like a.style) _ (line c))) in
     omega arith
 
-returns : tie.Need-returns
+returns : tie.Need-returns-then-next-eq42
 returns c =
-    let a = c.before.before.before.before.args in
-    let b = c.before.before.byte_at.ensures in
-    (c.block_at.ensures.0 ∙ sym (slash-block a.style a.text.now a.at (eq-eqb _ _ (sym b ∙ c.before.if1.true))), c.block_at.ensures.1)
+    let a = c.args in
+    let b = c.byte_at-next.ensures in
+    (c.block_at.ensures.0 ∙ sym (slash-block a.style a.text.now a.at (eq-eqb _ _ (sym b ∙ c.if-next-eq42.true))), c.block_at.ensures.1)
 
-returns-2 : tie.Need-returns-2
+returns-2 : tie.Need-returns-then-comment
 returns-2 c =
-    let e : tie.Else1 = c.before.before.before in
-    let n = ne_eqb _ _ (rw e.before.byte_at.ensures at e.if1.false) in
-    let a = e.before.before.before.args in
-    let r = c.line-end.ensures.0 in
+    let e : tie.Else-next-eq42 = c.before.before.before in
+    let n = ne_eqb _ _ (rw e.byte_at-next.ensures at e.if-next-eq42.false) in
+    let a = e.args in
+    let r = c.line_end.ensures.0 in
     (rw (slash-line a.style a.text.now a.at n (line c.before)) (ap Hidden (omega arith)), omega arith)
 
-returns-3 : tie.Need-returns-3
+returns-3 : tie.Need-returns
 returns-3 c =
-    let e : tie.Else1 = c.before.before in
-    let n = ne_eqb _ _ (rw e.before.byte_at.ensures at e.if1.false) in
-    let f = rw (c.before.is-c-like.ensures, e.before.byte_at.ensures) at c.if2.false in
-    let a = e.before.before.before.args in
+    let e : tie.Else-next-eq42 = c.before.before in
+    let n = ne_eqb _ _ (rw e.byte_at-next.ensures at e.if-next-eq42.false) in
+    let f = rw (c.is_c_like.ensures, e.byte_at-next.ensures) at c.if-comment.false in
+    let a = e.args in
     (sym (slash-code a.style a.text.now a.at n f), tt)
 
-pub slash-at-spec : {M : Type 1} → statement M
-slash-at-spec =
+pub slash_at_spec : {M : Type 1} → statement M
+slash_at_spec =
     tie.close
     (tie.spec
     (λ c. search rules)

@@ -8,12 +8,12 @@ use Rattle.code.proofs.matching.find_matching_parenthesis.Statement.{statement}
 use Rattle.code.proofs.matching.find_matching_parenthesis.Tie as tie
 
 -- the scan error is the first in all that follows the parenthesis
-scanned : (c : tie.After-first-unclosed) → let a = c.before.before.args in (scan_at a.style a.text.now a.at).fault ≡ c.first-unclosed.result
-scanned c = sym c.first-unclosed.ensures
+scanned : (c : tie.After-first_unclosed) → let a = c.args in (scan_at a.style a.text.now a.at).fault ≡ c.first_unclosed.result
+scanned c = sym c.first_unclosed.ensures
 
-pub find-matching-parenthesis-spec : {M : Type 1} → statement M
+pub find_matching_parenthesis_spec : {M : Type 1} → statement M
 unfolding matching
-find-matching-parenthesis-spec =
+find_matching_parenthesis_spec =
     tie.close
     (tie.spec
     (λ c κs. search rules)
@@ -21,6 +21,6 @@ find-matching-parenthesis-spec =
     (λ c κs. search rules)
     (λ c. search rules)
     (λ c. search rules)
-    (λ c. (c.match-open.ensures.0 ∙ simp (scanned c.before.before.before ∙ c.before.enum_told.given.1), c.match-open.ensures.1))
-    (λ c. (simp (scanned c.before.before ∙ c.enum-told2.given.1), tt))
-    (λ c. (simp (scanned c.before.before ∙ c.enum-told3.given.1), tt)))
+    (λ c. (c.match_open.ensures.0 ∙ simp (scanned c.before.before ∙ c.in-Nothing.is), c.match_open.ensures.1))
+    (λ c. (simp (scanned c.before ∙ c.in-Quote.is), tt))
+    (λ c. (simp (scanned c.before ∙ c.in-Comment.is), tt)))

@@ -15,8 +15,8 @@ use Rattle.code.proofs.MatchLaws.{match-end, match-goes, match-plain, match-clos
 use Rattle.code.proofs.matching.match_open.Statement.{statement}
 use Rattle.code.proofs.matching.match_open.Tie as tie
 
-abbrev invariant-loop : tie.invariant-loop
-invariant-loop text at style open₀ i₀ «open» i =
+abbrev invariant-loop-i : tie.invariant-loop-i
+invariant-loop-i text at style open₀ i₀ «open» i =
     (at ≤ i)
     × (i ≤ length text)
     × («open».depth ≤ 256)
@@ -24,106 +24,106 @@ invariant-loop text at style open₀ i₀ «open» i =
     × (is_empty (open_of «open») ≡ false)
     × (match_from (open_of «open») (onward style text i) ≡ match_from (41 ∷ []) (scan_at style text at).codes)
 
-abbrev decreases-loop : tie.decreases-loop
-decreases-loop text at style open₀ i₀ «open» i = length text - i
+abbrev decreases-loop-i : tie.decreases-loop-i
+decreases-loop-i text at style open₀ i₀ «open» i = length text - i
 
-loop-holds : tie.Need-loop-init invariant-loop decreases-loop
+loop-holds : tie.Need-loop-i-init invariant-loop-i decreases-loop-i
 loop-holds c =
-    let o = c.before.push.ensures ∙ ap (λ r. 41 ∷ r) c.before.before.new.ensures in
+    let o = c.push-open.ensures ∙ ap (λ r. 41 ∷ r) c.new.ensures in
     let n = ap length o in
-    let z = (shows-open c.before.push.result).size in
-    (omega arith, omega arith, omega (arith, n, z), search (rules, c.before.push.type-inv), rw o refl, rw (o, c.next-code.ensures.0) refl)
+    let z = (shows-open c.push-open.result).size in
+    (omega arith, omega arith, omega (arith, n, z), search (rules, c.push-open.type_inv), rw o refl, rw (o, c.next_code-i.ensures.0) refl)
 
 -- the change of the open brackets is that of the definition
-steps : (c : tie.After-taken invariant-loop decreases-loop) →
-    let l : tie.In-loop invariant-loop decreases-loop = c.before.before.before.before.before.before.before.before in
-    let a = l.before.before.before.before.before.before.args in
-    let v = l.before.loop in
+steps : (c : tie.After-taken invariant-loop-i decreases-loop-i) →
+    let l : tie.In-loop-i invariant-loop-i decreases-loop-i = c.before.before.before.before.before.before.before.before in
+    let a = l.args in
+    let v = l.loop-i in
     taken (open_of v.«open») (get_or a.text.now v.i 0) ≡ changed c.taken.result (open_of v.«open»)
 steps c =
-    let l : tie.In-loop invariant-loop decreases-loop = c.before.before.before.before.before.before.before.before in
-    let o = l.before.loop.«open» in
-    sym (c.taken.ensures.0 (open_of o) (rw c.before.before.before.below.ensures (shows-open o)))
+    let l : tie.In-loop-i invariant-loop-i decreases-loop-i = c.before.before.before.before.before.before.before.before in
+    let o = l.loop-i.«open» in
+    sym (c.taken.ensures.0 (open_of o) (rw c.below.ensures (shows-open o)))
 
 -- so the match goes on with the brackets that it leaves
-goes_on : (c : tie.After-taken invariant-loop decreases-loop) (left : List ℕ) →
-    let n : tie.After-next-code2 invariant-loop decreases-loop = c.before.before.before.before.before.before.before in
-    let l : tie.In-loop invariant-loop decreases-loop = n.before in
-    let a = l.before.before.before.before.before.before.args in
-    changed c.taken.result (open_of l.before.loop.«open») ≡ held left → is_empty left ≡ false
-    → match_from left (onward a.style a.text.now n.next-code2.result) ≡ match_from (41 ∷ []) (scan_at a.style a.text.now a.at).codes
+goes_on : (c : tie.After-taken invariant-loop-i decreases-loop-i) (left : List ℕ) →
+    let n : tie.After-next_code-i-in-loop-i invariant-loop-i decreases-loop-i = c.before.before.before.before.before.before.before in
+    let l : tie.In-loop-i invariant-loop-i decreases-loop-i = n.before in
+    let a = l.args in
+    changed c.taken.result (open_of l.loop-i.«open») ≡ held left → is_empty left ≡ false
+    → match_from left (onward a.style a.text.now n.next_code-i-in-loop-i.result) ≡ match_from (41 ∷ []) (scan_at a.style a.text.now a.at).codes
 goes_on c left e f =
-    let n : tie.After-next-code2 invariant-loop decreases-loop = c.before.before.before.before.before.before.before in
-    let l : tie.In-loop invariant-loop decreases-loop = n.before in
-    sym (match-goes _ _ _ _ l.loop-test.true _ _ (steps c ∙ e) f n.next-code2.ensures.0) ∙ l.before.loop.invariant.5
+    let n : tie.After-next_code-i-in-loop-i invariant-loop-i decreases-loop-i = c.before.before.before.before.before.before.before in
+    let l : tie.In-loop-i invariant-loop-i decreases-loop-i = n.before in
+    sym (match-goes _ _ _ _ l.loop-i-test.true _ _ (steps c ∙ e) f n.next_code-i-in-loop-i.ensures.0) ∙ l.loop-i.invariant.5
 
-loop-again : tie.Need-loop-preserved invariant-loop decreases-loop
+loop-again : tie.Need-loop-i-preserved-in-Push invariant-loop-i decreases-loop-i
 loop-again c =
-    let p : tie.After-taken invariant-loop decreases-loop = c.before.before.before in
-    let n : tie.After-next-code2 invariant-loop decreases-loop = p.before.before.before.before.before.before.before in
-    let l : tie.In-loop invariant-loop decreases-loop = n.before in
-    let o = l.before.loop.«open» in
-    let e = l.before.loop.invariant.3 in
-    let f : o.depth < 256 = rw c.before.c.given.1 at p.taken.ensures.1 in
+    let p : tie.After-taken invariant-loop-i decreases-loop-i = c.before in
+    let n : tie.After-next_code-i-in-loop-i invariant-loop-i decreases-loop-i = p.before.before.before.before.before.before.before in
+    let l : tie.In-loop-i invariant-loop-i decreases-loop-i = n.before in
+    let o = l.loop-i.«open» in
+    let e = l.loop-i.invariant.3 in
+    let f : o.depth < 256 = rw c.in-Push.is at p.taken.ensures.1 in
     let h : o.depth < length o.closing = omega arith in
-    let q = open-push o c.before.c.given.0.0 h in
-    (omega arith, omega arith, omega arith, rw (length-set) e, rw q refl, rw q (goes_on p _ (rw c.before.c.given.1 refl) refl))
+    let q = open-push o c.in-Push.c h in
+    (omega arith, omega arith, omega arith, rw (length-set) e, rw q refl, rw q (goes_on p _ (rw c.in-Push.is refl) refl))
 
-returns : tie.Need-returns invariant-loop decreases-loop
+returns : tie.Need-returns-then-is_empty invariant-loop-i decreases-loop-i
 returns c =
-    let e : tie.After-pop invariant-loop decreases-loop = c.before.before in
-    let p : tie.After-taken invariant-loop decreases-loop = e.before.before.before in
-    let l : tie.In-loop invariant-loop decreases-loop = p.before.before.before.before.before.before.before.before in
-    let h = rw e.before.enum_told.given.1 at (steps p) in
-    let none = sym (rw e.pop.ensures at c.before.is-empty.ensures) ∙ c.if2.true in
-    (sym (match-closed _ _ _ _ l.loop-test.true _ h none) ∙ l.before.loop.invariant.5, omega arith)
+    let e : tie.After-pop-open invariant-loop-i decreases-loop-i = c.before.before in
+    let p : tie.After-taken invariant-loop-i decreases-loop-i = e.before.before in
+    let l : tie.In-loop-i invariant-loop-i decreases-loop-i = p.before.before.before.before.before.before.before.before in
+    let h = rw e.in-Pop.is at (steps p) in
+    let none = sym (rw e.pop-open.ensures at c.is_empty.ensures) ∙ c.if-is_empty.true in
+    (sym (match-closed _ _ _ _ l.loop-i-test.true _ h none) ∙ l.loop-i.invariant.5, omega arith)
 
-loop-again-2 : tie.Need-loop-preserved-2 invariant-loop decreases-loop
+loop-again-2 : tie.Need-loop-i-preserved-else-is_empty invariant-loop-i decreases-loop-i
 loop-again-2 c =
-    let e : tie.After-pop invariant-loop decreases-loop = c.before.before in
-    let p : tie.After-taken invariant-loop decreases-loop = e.before.before.before in
-    let n : tie.After-next-code2 invariant-loop decreases-loop = p.before.before.before.before.before.before.before in
-    let l : tie.In-loop invariant-loop decreases-loop = n.before in
-    let d = left-depth l.before.loop.«open» e.pop.result e.pop.ensures in
-    let k : length e.pop.result.closing ≡ 256 = search (rules, e.pop.type-inv) in
-    let some = sym c.before.is-empty.ensures ∙ c.if2.false in
-    (omega arith, omega arith, omega (arith, d), k, some, goes_on p _ (rw (e.before.enum_told.given.1, e.pop.ensures) refl) some)
+    let e : tie.After-pop-open invariant-loop-i decreases-loop-i = c.before.before in
+    let p : tie.After-taken invariant-loop-i decreases-loop-i = e.before.before in
+    let n : tie.After-next_code-i-in-loop-i invariant-loop-i decreases-loop-i = p.before.before.before.before.before.before.before in
+    let l : tie.In-loop-i invariant-loop-i decreases-loop-i = n.before in
+    let d = left-depth l.loop-i.«open» e.pop-open.result e.pop-open.ensures in
+    let k : length e.pop-open.result.closing ≡ 256 = search (rules, e.pop-open.type_inv) in
+    let some = sym c.is_empty.ensures ∙ c.if-is_empty.false in
+    (omega arith, omega arith, omega (arith, d), k, some, goes_on p _ (rw (e.in-Pop.is, e.pop-open.ensures) refl) some)
 
-loop-again-3 : tie.Need-loop-preserved-3 invariant-loop decreases-loop
+loop-again-3 : tie.Need-loop-i-preserved-in-Keep invariant-loop-i decreases-loop-i
 loop-again-3 c =
-    let p : tie.After-taken invariant-loop decreases-loop = c.before.before in
-    let n : tie.After-next-code2 invariant-loop decreases-loop = p.before.before.before.before.before.before.before in
-    let l : tie.In-loop invariant-loop decreases-loop = n.before in
-    let i = l.before.loop.invariant in
-    (omega arith, omega arith, omega arith, i.3, i.4, goes_on p _ (rw c.enum-told2.given.1 refl) i.4)
+    let p : tie.After-taken invariant-loop-i decreases-loop-i = c.before in
+    let n : tie.After-next_code-i-in-loop-i invariant-loop-i decreases-loop-i = p.before.before.before.before.before.before.before in
+    let l : tie.In-loop-i invariant-loop-i decreases-loop-i = n.before in
+    let i = l.loop-i.invariant in
+    (omega arith, omega arith, omega arith, i.3, i.4, goes_on p _ (rw c.in-Keep.is refl) i.4)
 
-returns-2 : tie.Need-returns-2 invariant-loop decreases-loop
+returns-2 : tie.Need-returns-in-Wrong invariant-loop-i decreases-loop-i
 returns-2 c =
-    let p : tie.After-taken invariant-loop decreases-loop = c.before.before in
-    let l : tie.In-loop invariant-loop decreases-loop = p.before.before.before.before.before.before.before.before in
-    (sym (match-wrong _ _ _ _ l.loop-test.true (rw c.enum-told3.given.1 at (steps p))) ∙ l.before.loop.invariant.5, tt)
+    let p : tie.After-taken invariant-loop-i decreases-loop-i = c.before in
+    let l : tie.In-loop-i invariant-loop-i decreases-loop-i = p.before.before.before.before.before.before.before.before in
+    (sym (match-wrong _ _ _ _ l.loop-i-test.true (rw c.in-Wrong.is at (steps p))) ∙ l.loop-i.invariant.5, tt)
 
-returns-3 : tie.Need-returns-3 invariant-loop decreases-loop
+returns-3 : tie.Need-returns-in-Deep invariant-loop-i decreases-loop-i
 returns-3 c =
-    let p : tie.After-taken invariant-loop decreases-loop = c.before.before in
-    let l : tie.In-loop invariant-loop decreases-loop = p.before.before.before.before.before.before.before.before in
-    (sym (match-deep _ _ _ _ l.loop-test.true (rw c.enum-told4.given.1 at (steps p))) ∙ l.before.loop.invariant.5, omega arith)
+    let p : tie.After-taken invariant-loop-i decreases-loop-i = c.before in
+    let l : tie.In-loop-i invariant-loop-i decreases-loop-i = p.before.before.before.before.before.before.before.before in
+    (sym (match-deep _ _ _ _ l.loop-i-test.true (rw c.in-Deep.is at (steps p))) ∙ l.loop-i.invariant.5, omega arith)
 
-loop-again-4 : tie.Need-loop-preserved-4 invariant-loop decreases-loop
+loop-again-4 : tie.Need-loop-i-preserved invariant-loop-i decreases-loop-i
 loop-again-4 c =
-    let o : tie.After-is-one invariant-loop decreases-loop = c.before in
-    let n : tie.After-next-code2 invariant-loop decreases-loop = o.before.before in
-    let l : tie.In-loop invariant-loop decreases-loop = n.before in
-    let i = l.before.loop.invariant in
-    let plain = sym o.is_one.ensures ∙ c.if1.false in
-    (omega arith, omega arith, omega arith, i.3, i.4, sym (match-plain _ _ _ _ l.loop-test.true _ plain i.4 n.next-code2.ensures.0) ∙ i.5)
+    let o : tie.After-is_one invariant-loop-i decreases-loop-i = c.before in
+    let n : tie.After-next_code-i-in-loop-i invariant-loop-i decreases-loop-i = o.before.before in
+    let l : tie.In-loop-i invariant-loop-i decreases-loop-i = n.before in
+    let i = l.loop-i.invariant in
+    let plain = sym o.is_one.ensures ∙ c.if-is_one.false in
+    (omega arith, omega arith, omega arith, i.3, i.4, sym (match-plain _ _ _ _ l.loop-i-test.true _ plain i.4 n.next_code-i-in-loop-i.ensures.0) ∙ i.5)
 
-pub match-open-spec : {M : Type 1} → statement M
-match-open-spec =
+pub match_open_spec : {M : Type 1} → statement M
+match_open_spec =
     tie.close
     (tie.spec
-    invariant-loop
-    decreases-loop
+    invariant-loop-i
+    decreases-loop-i
     (λ c κs. search rules)
     (λ c κs. rw c.new.ensures (omega arith))
     (λ c κs. search rules)
@@ -137,7 +137,7 @@ match-open-spec =
     (λ c. omega arith)
     (λ c κs. search rules)
     (λ c. search rules)
-    (λ c. rw c.before.c.given.1 at c.before.before.before.taken.ensures.1)
+    (λ c. rw c.in-Push.is at c.taken.ensures.1)
     (λ c. omega arith)
     (λ c. omega arith)
     loop-again
@@ -156,4 +156,4 @@ match-open-spec =
     returns-3
     (λ c. omega arith)
     loop-again-4
-    (λ c. (sym (match-end _ _ _ _ c.loop-test.false) ∙ c.before.loop.invariant.5, tt)))
+    (λ c. (sym (match-end _ _ _ _ c.loop-i-test.false) ∙ c.loop-i.invariant.5, tt)))

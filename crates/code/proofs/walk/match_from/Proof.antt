@@ -8,15 +8,15 @@ use Rattle.code.proofs.WalkLaws.{match-clean}
 use Rattle.code.proofs.walk.match_from.Statement.{statement}
 use Rattle.code.proofs.walk.match_from.Tie as tie
 
-returns : tie.Need-returns
+returns : tie.Need-returns-then-walked-at
 returns c =
-    let a = c.before.before.before.before.args in
-    let e = ap (λ (i : ℕ). (scan_at a.style a.text.now i).fault) (sym c.before.if1.true)
-    ∙ sym c.before.before.walked.ensures ∙ c.before.before.before.before.requires.1.1 in
-    (c.match-open.ensures.0 ∙ sym (match-clean a.style a.text.now a.at e), c.match-open.ensures.1)
+    let a = c.args in
+    let e = ap (λ (i : ℕ). (scan_at a.style a.text.now i).fault) (sym c.if-walked-at.true)
+    ∙ sym c.walked.ensures ∙ c.requires.1.1 in
+    (c.match_open.ensures.0 ∙ sym (match-clean a.style a.text.now a.at e), c.match_open.ensures.1)
 
-pub match-from-spec : {M : Type 1} → statement M
-match-from-spec =
+pub match_from_spec : {M : Type 1} → statement M
+match_from_spec =
     tie.close
     (tie.spec
     (λ c κs. search rules)

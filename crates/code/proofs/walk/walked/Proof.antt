@@ -8,26 +8,26 @@ use Rattle.code.specs.Code.{scan_at}
 use Rattle.code.proofs.walk.walked.Statement.{statement}
 use Rattle.code.proofs.walk.walked.Tie as tie
 
-abbrev invariant-loop : tie.invariant-loop
-invariant-loop text from at style i₀ i = (i ≤ length text) × ((scan_at style text from).fault ≡ (scan_at style text i).fault)
+abbrev invariant-loop-i : tie.invariant-loop-i
+invariant-loop-i text from at style i₀ i = (i ≤ length text) × ((scan_at style text from).fault ≡ (scan_at style text i).fault)
 
-abbrev decreases-loop : tie.decreases-loop
-decreases-loop text from at style i₀ i = length text - i
+abbrev decreases-loop-i : tie.decreases-loop-i
+decreases-loop-i text from at style i₀ i = length text - i
 
-loop-again : tie.Need-loop-preserved invariant-loop decreases-loop
+loop-again : tie.Need-loop-i-preserved invariant-loop-i decreases-loop-i
 loop-again c =
-    let p : tie.After-passed invariant-loop decreases-loop = c.before in
-    (p.passed.ensures.1.1, p.before.before.loop.invariant.1 ∙ p.passed.ensures.0)
+    let p : tie.After-passed-next invariant-loop-i decreases-loop-i = c.before in
+    (p.passed-next.ensures.1.1, p.loop-i.invariant.1 ∙ p.passed-next.ensures.0)
 
-pub walked-spec : {M : Type 1} → statement M
-walked-spec =
+pub walked_spec : {M : Type 1} → statement M
+walked_spec =
     tie.close
     (tie.spec
-    invariant-loop
-    decreases-loop
+    invariant-loop-i
+    decreases-loop-i
     (λ c. (omega arith, refl))
     (λ c κs. omega arith)
-    (λ c. c.before.before.before.loop.invariant.1)
+    (λ c. c.loop-i.invariant.1)
     (λ c. omega arith)
     loop-again
-    (λ c. c.before.loop.invariant.1))
+    (λ c. c.loop-i.invariant.1))

@@ -7,12 +7,12 @@ use borrow.Author.Rules.{rules}
 use Rattle.coded.proofs.sequences.sequence_numbers.Statement.{statement}
 use Rattle.coded.proofs.sequences.sequence_numbers.Tie as tie
 
-pub sequence-numbers-spec : {M : Type 1} → statement M
-sequence-numbers-spec =
+pub sequence_numbers_spec : {M : Type 1} → statement M
+sequence_numbers_spec =
     tie.close
     (tie.spec
     (λ c. search rules)
     (λ c. search rules)
     (λ c κs. search rules)
-    (λ c. rw c.before.answer.given.1)
-    (λ c. rw c.before.before.answer2.given.1 (ap (λ (n : ℕ). n ∷ 0 ∷ []) c.code_of_lem.ensures)))
+    (λ c. rw c.in-Read.is)
+    (λ c. rw c.in-Refused.is (ap (λ (n : ℕ). n ∷ 0 ∷ []) c.code_of_lem.ensures)))

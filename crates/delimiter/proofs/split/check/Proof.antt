@@ -6,9 +6,9 @@ use Rattle.delimiter.specs.Cutting.{split_verdict}
 use Rattle.delimiter.proofs.split.check.Statement.{statement}
 use Rattle.delimiter.proofs.split.check.Tie as tie
 
-pub check-spec : {M : Type 1} → statement M
+pub check_spec : {M : Type 1} → statement M
 unfolding split_verdict
-check-spec =
+check_spec =
     tie.close
     (tie.spec
     (λ c κs. search rules)
@@ -18,10 +18,10 @@ check-spec =
     (λ c. search rules)
     (λ c. search rules)
     (λ c. search rules)
-    (λ c. rw (sym c.before.before.before.check-text.ensures ∙ c.before.why.given.1))
-    (λ c. let f : tie.After-first-unclosed = c.before.before in
-    rw (sym f.before.before.before.check-text.ensures ∙ f.before.enum_told.given.1, sym f.first-unclosed.ensures ∙ c.enum-told2.given.1))
-    (λ c. let f : tie.After-first-unclosed = c.before.before.before in
-    rw (sym f.before.before.before.check-text.ensures ∙ f.before.enum_told.given.1, sym f.first-unclosed.ensures ∙ c.before.place.given.1))
-    (λ c. let f : tie.After-first-unclosed = c.before.before.before in
-    rw (sym f.before.before.before.check-text.ensures ∙ f.before.enum_told.given.1, sym f.first-unclosed.ensures ∙ c.before.place2.given.1)))
+    (λ c. rw (sym c.check_text.ensures ∙ c.in-Bad.is))
+    (λ c. let f : tie.After-first_unclosed = c.before in
+    rw (sym f.check_text.ensures ∙ f.in-Fine.is, sym f.first_unclosed.ensures ∙ c.in-Nothing.is))
+    (λ c. let f : tie.After-first_unclosed = c.before in
+    rw (sym f.check_text.ensures ∙ f.in-Fine.is, sym f.first_unclosed.ensures ∙ c.in-Quote.is))
+    (λ c. let f : tie.After-first_unclosed = c.before in
+    rw (sym f.check_text.ensures ∙ f.in-Fine.is, sym f.first_unclosed.ensures ∙ c.in-Comment.is)))

@@ -7,10 +7,10 @@ use Rattle.code.proofs.Stack.{sized-empty}
 use Rattle.delimiter.proofs.split.last_end.Statement.{statement}
 use Rattle.delimiter.proofs.split.last_end.Tie as tie
 
-pub last-end-spec : {M : Type 1} → statement M
-last-end-spec =
+pub last_end_spec : {M : Type 1} → statement M
+last_end_spec =
     tie.close
     (tie.spec
-    (λ c. λ stack e. rw (sized-empty _ stack e ∙ eq-eqb _ _ c.if1.true) refl)
+    (λ c. λ stack e. rw (sized-empty _ stack e ∙ eq-eqb _ _ c.if-depth-eq0.true) refl)
     (λ c κs. search rules)
-    (λ c. λ stack e. rw (sized-empty _ stack e ∙ ne_eqb _ _ c.before.if1.false) c.refused-at.ensures))
+    (λ c. λ stack e. rw (sized-empty _ stack e ∙ ne_eqb _ _ c.if-depth-eq0.false) c.refused_at.ensures))

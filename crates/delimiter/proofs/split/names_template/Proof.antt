@@ -4,5 +4,5 @@ use borrow.Author.Rules.{rules}
 use Rattle.delimiter.proofs.split.names_template.Statement.{statement}
 use Rattle.delimiter.proofs.split.names_template.Tie as tie
 
-pub names-template-spec : {M : Type 1} → statement M
-names-template-spec = tie.close (tie.spec (λ c κs. search rules) (λ c. rw c.is_IsWord.ensures))
+pub names_template_spec : {M : Type 1} → statement M
+names_template_spec = tie.close (tie.spec (λ c κs. search rules) (λ c. rw c.is_word.ensures))

@@ -5,12 +5,12 @@ use native.Mathlib.Omega.{arith}
 use Rattle.delimiter.proofs.split.written.Statement.{statement}
 use Rattle.delimiter.proofs.split.written.Tie as tie
 
-pub written-spec : {M : Type 1} → statement M
-written-spec =
+pub written_spec : {M : Type 1} → statement M
+written_spec =
     tie.close
     (tie.spec
     (λ c. search rules)
-    (λ c. omega (arith, rw c.before.answer.given.1 at c.before.before.before.requires))
+    (λ c. omega (arith, rw c.in-Items.is at c.requires))
     (λ c. search rules)
-    (λ c. rw c.before.answer.given.1)
+    (λ c. rw c.in-Items.is)
     (λ c. search rules))

@@ -9,24 +9,24 @@ use Rattle.directive.proofs.Keeping.{grown-next, grown-long}
 use Rattle.directive.proofs.candidate.push_word.Statement.{statement}
 use Rattle.directive.proofs.candidate.push_word.Tie as tie
 
-returns : tie.Need-returns
+returns : tie.Need-returns-then-len-eq0
 returns c =
-    let t : tie.Then1 = c.before.before.before.before in
-    rw t.if1.true c.before.before.put-behind.ensures
+    let t : tie.Then-len-eq0 = c.before.before.before.before in
+    rw t.if-len-eq0.true c.put_behind.ensures
 
-returns-2 : tie.Need-returns-2
+returns-2 : tie.Need-returns-then-len-eq512
 returns-2 c =
-    let a = c.before.before.before.before.args in
-    sym (grown-long a.buffer.now (take (a.end - a.start) (drop a.start a.text.now)) a.len c.before.if1.false (omega arith) (omega arith))
+    let a = c.args in
+    sym (grown-long a.buffer.now (take (a.end - a.start) (drop a.start a.text.now)) a.len c.if-len-eq0.false (omega arith) (omega arith))
 
-returns-3 : tie.Need-returns-3
+returns-3 : tie.Need-returns
 returns-3 c =
-    let t : tie.Else2 = c.before.before.before.before in
-    let a = t.before.before.before.before.args in
-    rw (← grown-next a.buffer.now (take (a.end - a.start) (drop a.start a.text.now)) a.len t.before.if1.false (omega arith)) c.before.before.put-behind2.ensures
+    let t : tie.Else-len-eq512 = c.before.before.before.before in
+    let a = t.args in
+    rw (← grown-next a.buffer.now (take (a.end - a.start) (drop a.start a.text.now)) a.len t.if-len-eq0.false (omega arith)) c.put_behind-2.ensures
 
-pub push-word-spec : {M : Type 1} → statement M
-push-word-spec =
+pub push_word_spec : {M : Type 1} → statement M
+push_word_spec =
     tie.close
     (tie.spec
     (λ c κs. search rules)
@@ -36,5 +36,5 @@ push-word-spec =
     (λ c. search rules)
     (λ c. search rules)
     (λ c κs. search rules)
-    (λ c. omega (arith, simp length-set at c.before.before.put-behind2.auto.0))
+    (λ c. omega (arith, simp length-set at c.put_behind-2.auto.0))
     returns-3)

@@ -11,23 +11,23 @@ use Rattle.directive.proofs.Keeping.{part_length, fitting-none, kept-fits}
 use Rattle.directive.proofs.candidate.put_behind.Statement.{statement}
 use Rattle.directive.proofs.candidate.put_behind.Tie as tie
 
-returns : tie.Need-returns
+returns : tie.Need-returns-then-end-start
 returns c =
-    let a = c.before.before.before.args in
+    let a = c.args in
     let w = take (a.end - a.start) (drop a.start a.text.now) in
     let l = length-take-le a.from a.buffer.now (omega arith) in
     let n = part_length a.text.now a.start a.end (omega arith) (omega arith) in
     sym (fitting-none (take a.from a.buffer.now ++ w) (simp length-append (omega arith)))
 
-returns-2 : tie.Need-returns-2
+returns-2 : tie.Need-returns
 returns-2 c =
-    let m : tie.After-copy-part = c.before.before in
-    let a = m.before.before.before.before.before.args in
+    let m : tie.After-copy_part = c.before.before in
+    let a = m.args in
     let w = take (a.end - a.start) (drop a.start a.text.now) in
-    kept-fits m.copy-part.result m.copy-part.new.1.1.1.0 (take a.from a.buffer.now ++ w) (omega (arith, m.copy-part.ensures.0)) m.copy-part.ensures.1
+    kept-fits m.copy_part.result m.copy_part.new.1.1.1.0 (take a.from a.buffer.now ++ w) (omega (arith, m.copy_part.ensures.0)) m.copy_part.ensures.1
 
-pub put-behind-spec : {M : Type 1} → statement M
-put-behind-spec =
+pub put_behind_spec : {M : Type 1} → statement M
+put_behind_spec =
     tie.close
     (tie.spec
     (λ c. search rules)

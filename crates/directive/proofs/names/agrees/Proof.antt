@@ -15,16 +15,16 @@ use Rattle.directive.proofs.Agreeing.{squeezed, headed, plain, agrees-headed, so
 use Rattle.directive.proofs.names.agrees.Statement.{statement}
 use Rattle.directive.proofs.names.agrees.Tie as tie
 
-abbrev invariant-loop : tie.invariant-loop
-invariant-loop name candidate heads compact ignore-case i₀ j₀ i j =
+abbrev invariant-loop-i : tie.invariant-loop-i
+invariant-loop-i name candidate heads compact ignore-case i₀ j₀ i j =
     (i ≤ length name)
     × (j ≤ length candidate)
     × ((compact && is_space (get_or candidate j 0)) ≡ false)
     × (headed heads (plain compact (comparing ignore-case)) [] (drop i name) (squeezed compact (drop j candidate))
     ≡ headed heads (plain compact (comparing ignore-case)) [] name (squeezed compact candidate))
 
-abbrev decreases-loop : tie.decreases-loop
-decreases-loop name candidate heads compact ignore-case i₀ j₀ i j = length name - i
+abbrev decreases-loop-i : tie.decreases-loop-i
+decreases-loop-i name candidate heads compact ignore-case i₀ j₀ i j = length name - i
 
 -- an answer for what is left is one for the whole
 gives : (h k i : Bool) (name c rest left : List ℕ) (b : Bool)
@@ -32,112 +32,112 @@ gives : (h k i : Bool) (name c rest left : List ℕ) (b : Bool)
     → headed h (plain k (comparing (i || k))) [] rest left ≡ b → b ≡ agreed h k i name c
 gives h k i name c rest left b inv e = sym e ∙ inv ∙ sym (agrees-headed h k i name c)
 
-loop-holds : tie.Need-loop-init invariant-loop decreases-loop
+loop-holds : tie.Need-loop-i-init invariant-loop-i decreases-loop-i
 loop-holds c =
-    let h = c.before.before.before.before.args.how in
-    let s = c.before.before.before.before.args.candidate.now in
-    let e = c.solid-from.ensures.0 in
-    (omega arith, c.solid-from.ensures.1.1, solid-stops h.compact s 0 c.solid-from.result e, rw (solid-squeezed h.compact s 0 c.solid-from.result e))
+    let h = c.args.how in
+    let s = c.args.candidate.now in
+    let e = c.solid_from-j.ensures.0 in
+    (omega arith, c.solid_from-j.ensures.1.1, solid-stops h.compact s 0 c.solid_from-j.result e, rw (solid-squeezed h.compact s 0 c.solid_from-j.result e))
 
-returns : tie.Need-returns invariant-loop decreases-loop
+returns : tie.Need-returns-then-heads-x invariant-loop-i decreases-loop-i
 returns c =
-    let t : tie.In-loop invariant-loop decreases-loop = c.before.before in
-    let l = t.before.loop in
-    let a = t.before.before.before.before.before.before.args in
+    let t : tie.In-loop-i invariant-loop-i decreases-loop-i = c.before.before in
+    let l = t.loop-i in
+    let a = t.args in
     let h = a.how in
     gives h.heads h.compact h.ignore_case a.name.now a.candidate.now _ _ _ l.invariant.3
-    (name-hit h.heads h.compact (comparing (h.ignore_case || h.compact)) a.candidate.now l.j a.name.now l.i t.loop-test.true l.invariant.1 l.invariant.2
-    c.if1.true)
+    (name-hit h.heads h.compact (comparing (h.ignore_case || h.compact)) a.candidate.now l.j a.name.now l.i t.loop-i-test.true l.invariant.1 l.invariant.2
+    c.if-heads-x.true)
 
 -- whether the byte of the name counts
-blank : (c : tie.After-is-space invariant-loop decreases-loop) (b : Bool) → let a = c.before.before.before.before.before.before.before.before.before.args in
-    (a.how.compact && c.is-space.result) ≡ b → (a.how.compact && is_space (get_or a.name.now c.before.before.before.before.loop.i 0)) ≡ b
-blank c b e = rw c.is-space.ensures at e
+blank : (c : tie.After-is_space invariant-loop-i decreases-loop-i) (b : Bool) → let a = c.args in
+    (a.how.compact && c.is_space.result) ≡ b → (a.how.compact && is_space (get_or a.name.now c.loop-i.i 0)) ≡ b
+blank c b e = rw c.is_space.ensures at e
 
-loop-again : tie.Need-loop-preserved invariant-loop decreases-loop
+loop-again : tie.Need-loop-i-preserved-then-compact-is_space invariant-loop-i decreases-loop-i
 loop-again c =
-    let t : tie.In-loop invariant-loop decreases-loop = c.before.before.before.before in
-    let l = t.before.loop in
-    let a = t.before.before.before.before.before.before.args in
+    let t : tie.In-loop-i invariant-loop-i decreases-loop-i = c.before.before.before.before in
+    let l = t.loop-i in
+    let a = t.args in
     let h = a.how in (
       omega arith,
       l.invariant.1,
       l.invariant.2,
       sym
-          (name-blank h.heads h.compact (comparing (h.ignore_case || h.compact)) a.candidate.now l.j a.name.now l.i t.loop-test.true l.invariant.1 l.invariant.2
-          c.before.before.if1.false
-          (blank c.before true c.if2.true))
+          (name-blank h.heads h.compact (comparing (h.ignore_case || h.compact)) a.candidate.now l.j a.name.now l.i t.loop-i-test.true l.invariant.1 l.invariant.2
+          c.if-heads-x.false
+          (blank c.before true c.if-compact-is_space.true))
           ∙ l.invariant.3,
     )
 
-returns-2 : tie.Need-returns-2 invariant-loop decreases-loop
+returns-2 : tie.Need-returns-then-used invariant-loop-i decreases-loop-i
 returns-2 c =
-    let t : tie.In-loop invariant-loop decreases-loop = c.before.before.before.before.before in
-    let l = t.before.loop in
-    let a = t.before.before.before.before.before.before.args in
+    let t : tie.In-loop-i invariant-loop-i decreases-loop-i = c.before.before.before.before.before in
+    let l = t.loop-i in
+    let a = t.args in
     let h = a.how in
     gives h.heads h.compact h.ignore_case a.name.now a.candidate.now _ _ _ l.invariant.3
-    (name-alone h.heads h.compact (comparing (h.ignore_case || h.compact)) a.candidate.now l.j a.name.now l.i t.loop-test.true l.invariant.1 l.invariant.2
-    c.before.before.before.if1.false
-    (blank c.before.before false c.before.if2.false)
-    c.if3.true)
+    (name-alone h.heads h.compact (comparing (h.ignore_case || h.compact)) a.candidate.now l.j a.name.now l.i t.loop-i-test.true l.invariant.1 l.invariant.2
+    c.if-heads-x.false
+    (blank c.before.before false c.if-compact-is_space.false)
+    c.if-used.true-raw)
 
 -- the two bytes are compared
-other : (c : tie.After-same-byte invariant-loop decreases-loop) →
-    let t : tie.In-loop invariant-loop decreases-loop = c.before.before.before.before.before.before.before in
-    let l = t.before.loop in
-    let a = t.before.before.before.before.before.before.args in
+other : (c : tie.After-same_byte invariant-loop-i decreases-loop-i) →
+    let t : tie.In-loop-i invariant-loop-i decreases-loop-i = c.before.before.before.before.before.before.before in
+    let l = t.loop-i in
+    let a = t.args in
     let h = a.how in
     headed h.heads (plain h.compact (comparing (h.ignore_case || h.compact))) [] (drop l.i a.name.now) (squeezed h.compact (drop l.j a.candidate.now))
     ≡ (c.same_byte.result && headed h.heads (plain h.compact (comparing (h.ignore_case || h.compact))) [] (drop (l.i + 1) a.name.now) (squeezed h.compact (drop (l.j + 1) a.candidate.now)))
 other c =
-    let t : tie.In-loop invariant-loop decreases-loop = c.before.before.before.before.before.before.before in
-    let l = t.before.loop in
-    let a = t.before.before.before.before.before.before.args in
+    let t : tie.In-loop-i invariant-loop-i decreases-loop-i = c.before.before.before.before.before.before.before in
+    let l = t.loop-i in
+    let a = t.args in
     let h = a.how in
     rw c.same_byte.ensures
-    (name-other h.heads h.compact (comparing (h.ignore_case || h.compact)) a.candidate.now l.j a.name.now l.i t.loop-test.true l.invariant.1 l.invariant.2
-    c.before.before.before.before.before.if1.false
-    (blank c.before.before.before.before false c.before.before.before.if2.false)
-    c.before.before.if3.false)
+    (name-other h.heads h.compact (comparing (h.ignore_case || h.compact)) a.candidate.now l.j a.name.now l.i t.loop-i-test.true l.invariant.1 l.invariant.2
+    c.if-heads-x.false
+    (blank c.before.before.before.before false c.if-compact-is_space.false)
+    c.if-used.false-raw)
 
-returns-3 : tie.Need-returns-3 invariant-loop decreases-loop
+returns-3 : tie.Need-returns-then-not-same_byte invariant-loop-i decreases-loop-i
 returns-3 c =
-    let t : tie.In-loop invariant-loop decreases-loop = c.before.before.before.before.before.before.before.before in
-    let l = t.before.loop in
-    let a = t.before.before.before.before.before.before.args in
+    let t : tie.In-loop-i invariant-loop-i decreases-loop-i = c.before.before.before.before.before.before.before.before in
+    let l = t.loop-i in
+    let a = t.args in
     let h = a.how in
     gives h.heads h.compact h.ignore_case a.name.now a.candidate.now _ _ _ l.invariant.3
-    (rw (not-true c.before.same_byte.result c.if4.true) at (other c.before))
+    (rw (not-true c.same_byte.result c.if-not-same_byte.true-raw) at (other c.before))
 
-loop-again-2 : tie.Need-loop-preserved-2 invariant-loop decreases-loop
+loop-again-2 : tie.Need-loop-i-preserved invariant-loop-i decreases-loop-i
 loop-again-2 c =
-    let t : tie.In-loop invariant-loop decreases-loop = c.before.before.before.before.before.before.before.before.before in
-    let l = t.before.loop in
-    let a = t.before.before.before.before.before.before.args in
+    let t : tie.In-loop-i invariant-loop-i decreases-loop-i = c.before.before.before.before.before.before.before.before.before in
+    let l = t.loop-i in
+    let a = t.args in
     let h = a.how in
-    let e = c.solid-from2.ensures.0 in
-    let o = rw (not-false c.before.before.same_byte.result c.before.if4.false) at (other c.before.before) in (
+    let e = c.solid_from-j-else-compact-is_space.ensures.0 in
+    let o = rw (not-false c.same_byte.result c.if-not-same_byte.false-raw) at (other c.before.before) in (
       omega arith,
-      c.solid-from2.ensures.1.1,
-      solid-stops h.compact a.candidate.now (l.j + 1) c.solid-from2.result e,
-      rw (solid-squeezed h.compact a.candidate.now (l.j + 1) c.solid-from2.result e) (sym o ∙ l.invariant.3),
+      c.solid_from-j-else-compact-is_space.ensures.1.1,
+      solid-stops h.compact a.candidate.now (l.j + 1) c.solid_from-j-else-compact-is_space.result e,
+      rw (solid-squeezed h.compact a.candidate.now (l.j + 1) c.solid_from-j-else-compact-is_space.result e) (sym o ∙ l.invariant.3),
     )
 
-returns-4 : tie.Need-returns-4 invariant-loop decreases-loop
+returns-4 : tie.Need-returns invariant-loop-i decreases-loop-i
 returns-4 c =
-    let l = c.before.loop in
-    let a = c.before.before.before.before.before.before.args in
+    let l = c.loop-i in
+    let a = c.args in
     let h = a.how in
     gives h.heads h.compact h.ignore_case a.name.now a.candidate.now _ _ _ l.invariant.3
-    (name-end h.heads h.compact (comparing (h.ignore_case || h.compact)) a.candidate.now l.j a.name.now l.i c.loop-test.false l.invariant.1 l.invariant.2)
+    (name-end h.heads h.compact (comparing (h.ignore_case || h.compact)) a.candidate.now l.j a.name.now l.i c.loop-i-test.false l.invariant.1 l.invariant.2)
 
-pub agrees-spec : {M : Type 1} → statement M
-agrees-spec =
+pub agrees_spec : {M : Type 1} → statement M
+agrees_spec =
     tie.close
     (tie.spec
-    invariant-loop
-    decreases-loop
+    invariant-loop-i
+    decreases-loop-i
     (λ c κs. omega arith)
     loop-holds
     (λ c. omega arith)

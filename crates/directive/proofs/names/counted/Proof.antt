@@ -9,10 +9,10 @@ pub counted_spec : {M : Type 1} → statement M
 counted_spec =
     tie.close
     (tie.spec
-    (λ c. rw (not-true c.before.args.fits c.if1.true))
+    (λ c. rw (not-true c.args.fits c.if-not-fits.true-raw))
     (λ c. search rules)
     (λ c. search rules)
     (λ c. search rules)
-    (λ c. rw (not-false c.before.before.before.args.fits c.before.before.if1.false, c.enum_told.given.1))
-    (λ c. rw (not-false c.before.before.before.args.fits c.before.before.if1.false, c.enum-told2.given.1))
-    (λ c. rw (not-false c.before.before.before.args.fits c.before.before.if1.false, c.enum-told3.given.1)))
+    (λ c. rw (not-false c.args.fits c.if-not-fits.false-raw, c.in-Never.is))
+    (λ c. rw (not-false c.args.fits c.if-not-fits.false-raw, c.in-Once.is))
+    (λ c. rw (not-false c.args.fits c.if-not-fits.false-raw, c.in-Often.is)))

@@ -11,47 +11,47 @@ use Rattle.directive.proofs.Tallying.{entry-tallied}
 use Rattle.directive.proofs.names.entry_of.Statement.{statement}
 use Rattle.directive.proofs.names.entry_of.Tie as tie
 
-returns : tie.Need-returns
+returns : tie.Need-returns-in-At
 returns c =
-    let m : tie.After-look-up = c.before.before.before in
+    let m : tie.After-look_up = c.before in
     let s = m.before.before.before.before.before in
-    rw (entry-tallied s.args.header s.args.book.now s.args.candidate.now s.requires.0, sym m.look_up.ensures ∙ c.before.i.given.1)
+    rw (entry-tallied s.args.header s.args.book.now s.args.candidate.now s.requires.0, sym m.look_up.ensures ∙ c.in-At.is)
 
 -- no name is the candidate itself
-absent : (c : tie.After-enum-told) →
-    let a = c.before.before.before.before.before.before.before.args in
+absent : (c : tie.In-Nothing) →
+    let a = c.args in
     find_from (comparing a.header.ignores_case) 0 a.candidate.now (entries_in a.header.directives a.book.now) ≡ Nothing
-absent c = sym c.before.before.look_up.ensures ∙ c.enum_told.given.1
+absent c = sym c.look_up.ensures ∙ c.in-Nothing.is
 
-returns-2 : tie.Need-returns-2
+returns-2 : tie.Need-returns-then-not-header
 returns-2 c =
-    let m : tie.After-enum-told = c.before.before in
-    let s = m.before.before.before.before.before.before.before in
-    rw (entry-tallied s.args.header s.args.book.now s.args.candidate.now s.requires.0, absent m, not-true s.args.header.optional_blanks c.if1.true)
+    let m : tie.In-Nothing = c.before.before in
+    let s = m.before.before.before.before.before.before in
+    rw (entry-tallied s.args.header s.args.book.now s.args.candidate.now s.requires.0, absent m, not-true s.args.header.optional_blanks c.if-not-header.true)
 
-returns-3 : tie.Need-returns-3
+returns-3 : tie.Need-returns-in-Never
 returns-3 c =
-    let t : tie.After-tally = c.before.before in
-    let m : tie.After-enum-told = t.before.before.before in
-    let s = m.before.before.before.before.before.before.before in
-    rw (entry-tallied s.args.header s.args.book.now s.args.candidate.now s.requires.0, absent m, not-false s.args.header.optional_blanks t.before.if1.false, sym t.tally.ensures ∙ c.enum-told2.given.1)
+    let t : tie.After-tally = c.before in
+    let m : tie.In-Nothing = t.before.before.before in
+    let s = m.before.before.before.before.before.before in
+    rw (entry-tallied s.args.header s.args.book.now s.args.candidate.now s.requires.0, absent m, not-false s.args.header.optional_blanks t.if-not-header.false, sym t.tally.ensures ∙ c.in-Never.is)
 
-returns-4 : tie.Need-returns-4
+returns-4 : tie.Need-returns-in-Once
 returns-4 c =
-    let t : tie.After-tally = c.before.before.before in
-    let m : tie.After-enum-told = t.before.before.before in
-    let s = m.before.before.before.before.before.before.before in
-    rw (entry-tallied s.args.header s.args.book.now s.args.candidate.now s.requires.0, absent m, not-false s.args.header.optional_blanks t.before.if1.false, sym t.tally.ensures ∙ c.before.i2.given.1)
+    let t : tie.After-tally = c.before in
+    let m : tie.In-Nothing = t.before.before.before in
+    let s = m.before.before.before.before.before.before in
+    rw (entry-tallied s.args.header s.args.book.now s.args.candidate.now s.requires.0, absent m, not-false s.args.header.optional_blanks t.if-not-header.false, sym t.tally.ensures ∙ c.in-Once.is)
 
-returns-5 : tie.Need-returns-5
+returns-5 : tie.Need-returns-in-Often
 returns-5 c =
-    let t : tie.After-tally = c.before.before in
-    let m : tie.After-enum-told = t.before.before.before in
-    let s = m.before.before.before.before.before.before.before in
-    rw (entry-tallied s.args.header s.args.book.now s.args.candidate.now s.requires.0, absent m, not-false s.args.header.optional_blanks t.before.if1.false, sym t.tally.ensures ∙ c.enum-told3.given.1)
+    let t : tie.After-tally = c.before in
+    let m : tie.In-Nothing = t.before.before.before in
+    let s = m.before.before.before.before.before.before in
+    rw (entry-tallied s.args.header s.args.book.now s.args.candidate.now s.requires.0, absent m, not-false s.args.header.optional_blanks t.if-not-header.false, sym t.tally.ensures ∙ c.in-Often.is)
 
-pub entry-of-spec : {M : Type 1} → statement M
-entry-of-spec =
+pub entry_of_spec : {M : Type 1} → statement M
+entry_of_spec =
     tie.close
     (tie.spec
     (λ c κs. search rules)

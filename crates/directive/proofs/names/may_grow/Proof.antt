@@ -10,31 +10,31 @@ use Rattle.directive.proofs.Tallying.{grow-any}
 use Rattle.directive.proofs.names.may_grow.Statement.{statement}
 use Rattle.directive.proofs.names.may_grow.Tie as tie
 
-returns : tie.Need-returns
-returns c = sym (named-grows _ _ _ (sym c.before.before.before.before.requires.1.1 ∙ ap found_at c.enum_told.given.1))
+returns : tie.Need-returns-in-At
+returns c = sym (named-grows _ _ _ (sym c.requires.1.1 ∙ ap found_at c.in-At.is))
 
-returns-2 : tie.Need-returns-2
+returns-2 : tie.Need-returns-then-any_agrees
 returns-2 c =
-    let m : tie.After-any-agrees = c.before in
-    let s = m.before.before.before.before.before.before in
-    rw (grow-any s.args.header s.args.book.now s.args.candidate.now s.requires.0, sym m.any-agrees.ensures ∙ c.if1.true)
+    let m : tie.After-any_agrees = c.before in
+    let s = m.before.before.before.before.before in
+    rw (grow-any s.args.header s.args.book.now s.args.candidate.now s.requires.0, sym m.any_agrees.ensures ∙ c.if-any_agrees.true)
 
-returns-3 : tie.Need-returns-3
+returns-3 : tie.Need-returns-then-not-header
 returns-3 c =
-    let m : tie.After-any-agrees = c.before.before.before in
-    let s = m.before.before.before.before.before.before in
-    rw (grow-any s.args.header s.args.book.now s.args.candidate.now s.requires.0, sym m.any-agrees.ensures ∙ c.before.before.if1.false, not-true s.args.header.optional_blanks c.if2.true)
+    let m : tie.After-any_agrees = c.before.before.before in
+    let s = m.before.before.before.before.before in
+    rw (grow-any s.args.header s.args.book.now s.args.candidate.now s.requires.0, sym m.any_agrees.ensures ∙ c.if-any_agrees.false, not-true s.args.header.optional_blanks c.if-not-header.true)
 
-returns-4 : tie.Need-returns-4
+returns-4 : tie.Need-returns
 returns-4 c =
     let o = c.before in
-    let m : tie.After-any-agrees = o.before.before.before in
-    let s = m.before.before.before.before.before.before in
-    rw (grow-any s.args.header s.args.book.now s.args.candidate.now s.requires.0, sym m.any-agrees.ensures ∙ o.before.before.if1.false, not-false s.args.header.optional_blanks o.if2.false)
-    c.any-agrees2.ensures
+    let m : tie.After-any_agrees = o.before.before.before in
+    let s = m.before.before.before.before.before in
+    rw (grow-any s.args.header s.args.book.now s.args.candidate.now s.requires.0, sym m.any_agrees.ensures ∙ o.if-any_agrees.false, not-false s.args.header.optional_blanks o.if-not-header.false)
+    c.any_agrees-2.ensures
 
-pub may-grow-spec : {M : Type 1} → statement M
-may-grow-spec =
+pub may_grow_spec : {M : Type 1} → statement M
+may_grow_spec =
     tie.close
     (tie.spec
     (λ c. search rules)

@@ -13,38 +13,38 @@ use Rattle.lexer.proofs.Laws.{forward-since, came-to}
 use Rattle.lexer.proofs.Cursor.pragma.Statement.{statement}
 use Rattle.lexer.proofs.Cursor.pragma.Tie as tie
 
-at_a : (c : tie.After-known-told)
-    → let s = c.before.before.before.before.before.before.args in
-    let a = c.before.a.given.0.0.at in
+at_a : (c : tie.In-At)
+    → let s = c.args in
+    let a = c.in-At.a.at in
     (word_step (bytes "#") s.text.now s.self.at ≡ given a) × (s.self.at ≤ a) × (a ≤ length s.text.now)
 at_a c =
-    let r = c.before.before.before.word in
-    came-to c.before.a.given.1 r.ensures.0 r.ensures.1
+    let r = c.word in
+    came-to c.in-At.is r.ensures.0 r.ensures.1
 
-at_b : (c : tie.After-known-told3)
-    → let t = c.before.before.before.before.before.before.before.before.before.before.args.text.now in
-    let a = c.before.before.before.before.before.a.given.0.0.at in
-    let b = c.before.b.given.0.0.at in
+at_b : (c : tie.In-At-trivia)
+    → let t = c.args.text.now in
+    let a = c.in-At.a.at in
+    let b = c.in-At-trivia.b.at in
     (trivia_step false t a ≡ given b) × (a ≤ b) × (b ≤ length t)
 at_b c =
-    let r = c.before.before.before.trivia in
-    came-to c.before.b.given.1 r.ensures.0 r.ensures.1
+    let r = c.trivia in
+    came-to c.in-At-trivia.is r.ensures.0 r.ensures.1
 
-returns : tie.Need-returns
-returns c = (simp (sym c.before.before.before.word.ensures.0 ∙ ap step_of c.before.r.given.1), tt)
+returns : tie.Need-returns-in-Refused
+returns c = (simp (sym c.word.ensures.0 ∙ ap step_of c.in-Refused.is), tt)
 
-returns-2 : tie.Need-returns-2
-returns-2 c = (rw ((at_a c.before.before.before.before).0, sym c.before.before.before.trivia.ensures.0 ∙ ap step_of c.before.unclosed.given.1) refl, tt)
+returns-2 : tie.Need-returns-in-Refused-trivia
+returns-2 c = (rw ((at_a c.before.before).0, sym c.trivia.ensures.0 ∙ ap step_of c.in-Refused-trivia.is) refl, tt)
 
-returns-3 : tie.Need-returns-3
+returns-3 : tie.Need-returns
 returns-3 c =
     let b = c.before.before in
     let a = b.before.before.before.before in
-    let r = c.word-behind in
+    let r = c.word_behind in
     (rw ((at_a a).0, (at_b b).0) r.ensures.0, forward-since _ _ _ r.result (omega (arith, (at_a a).1, (at_b b).1)) r.ensures.1)
 
-pub pragma-spec : {M : Type 1} → statement M
-pragma-spec =
+pub pragma_spec : {M : Type 1} → statement M
+pragma_spec =
     tie.close
     (tie.spec
     (λ c. search rules)

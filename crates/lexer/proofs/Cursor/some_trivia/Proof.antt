@@ -7,17 +7,17 @@ use Rattle.lexer.specs.Trivia.{Inside}
 use Rattle.lexer.proofs.Cursor.some_trivia.Statement.{statement}
 use Rattle.lexer.proofs.Cursor.some_trivia.Tie as tie
 
-returns : tie.Need-returns
-returns c = (simp (sym c.before.before.before.before.skip.ensures.0 ∙ c.before.before.place.given.1, eq-eqb _ _ c.if1.true), tt)
+returns : tie.Need-returns-then-place-at
+returns c = (simp (sym c.skip.ensures.0 ∙ c.in-Past.is, eq-eqb _ _ c.if-place-at.true), tt)
 
-returns-2 : tie.Need-returns-2
+returns-2 : tie.Need-returns-else-place-at
 returns-2 c =
-    let k = c.before.before.before.before.skip in
-    let e = c.before.before.place.given.1 in
-    (simp (sym k.ensures.0 ∙ e, ne_eqb _ _ c.if1.false), subst (Inside _ _) e k.ensures.1)
+    let k = c.skip in
+    let e = c.in-Past.is in
+    (simp (sym k.ensures.0 ∙ e, ne_eqb _ _ c.if-place-at.false), subst (Inside _ _) e k.ensures.1)
 
-pub some-trivia-spec : {M : Type 1} → statement M
-some-trivia-spec =
+pub some_trivia_spec : {M : Type 1} → statement M
+some_trivia_spec =
     tie.close
     (tie.spec
     (λ c κs. search rules)
@@ -25,4 +25,4 @@ some-trivia-spec =
     returns
     (λ c. search rules)
     returns-2
-    (λ c. (simp (sym c.before.before.before.skip.ensures.0 ∙ c.before.place2.given.1), tt)))
+    (λ c. (simp (sym c.skip.ensures.0 ∙ c.in-OpenAt.is), tt)))

@@ -6,18 +6,18 @@ use Rattle.lexer.specs.Trivia.{Inside}
 use Rattle.lexer.proofs.Cursor.trivia.Statement.{statement}
 use Rattle.lexer.proofs.Cursor.trivia.Tie as tie
 
-returns : tie.Need-returns
+returns : tie.Need-returns-in-Past
 returns c =
-    let k = c.before.before.before.skip in
-    let e = c.before.place.given.1 in
+    let k = c.skip in
+    let e = c.in-Past.is in
     (simp (sym k.ensures.0 ∙ e), subst (Inside _ _) e k.ensures.1)
 
-pub trivia-spec : {M : Type 1} → statement M
-trivia-spec =
+pub trivia_spec : {M : Type 1} → statement M
+trivia_spec =
     tie.close
     (tie.spec
     (λ c κs. search rules)
     (λ c. search rules)
     (λ c. search rules)
     returns
-    (λ c. (simp (sym c.before.before.before.skip.ensures.0 ∙ c.before.place2.given.1), tt)))
+    (λ c. (simp (sym c.skip.ensures.0 ∙ c.in-OpenAt.is), tt)))

@@ -9,13 +9,13 @@ use Rattle.lexer.proofs.Laws.{begins-fits}
 use Rattle.lexer.proofs.Cursor.word_behind.Statement.{statement}
 use Rattle.lexer.proofs.Cursor.word_behind.Tie as tie
 
-returns : tie.Need-returns
+returns : tie.Need-returns-then-begins_at
 returns c =
-    let a = c.before.before.before.before.args in
-    let e = sym c.before.begins-at.ensures ∙ c.if1.true in
+    let a = c.args in
+    let e = sym c.begins_at.ensures ∙ c.if-begins_at.true in
     (simp e, omega (arith, begins-fits exactly a.word.now (drop a.self.at a.text.now) e, length-drop a.self.at a.text.now))
 
-pub word-behind-spec : {M : Type 1} → statement M
-word-behind-spec =
+pub word_behind_spec : {M : Type 1} → statement M
+word_behind_spec =
     tie.close
-    (tie.spec (λ c κs. search rules) (λ c. search rules) returns (λ c. (simp (sym c.before.begins-at.ensures ∙ c.if1.false), tt)))
+    (tie.spec (λ c κs. search rules) (λ c. search rules) returns (λ c. (simp (sym c.begins_at.ensures ∙ c.if-begins_at.false), tt)))

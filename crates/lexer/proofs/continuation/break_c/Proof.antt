@@ -15,31 +15,31 @@ use Rattle.lexer.proofs.Laws.{inside}
 use Rattle.lexer.proofs.continuation.break_c.Statement.{statement}
 use Rattle.lexer.proofs.continuation.break_c.Tie as tie
 
-read : (c : tie.After-byte-at3) →
-    let a = c.before.before.byte_at.result in
-    let b = c.before.byte-at2.result in
-    break_c (drop c.before.before.before.before.args.at c.before.before.before.before.args.text.now)
-    ≡ cond (eqb a 92 && eqb b 10) 2 (cond (eqb a 92 && eqb b 13 && eqb c.byte-at3.result 10) 3 0)
+read : (c : tie.After-byte_at-c) →
+    let a = c.byte_at-a.result in
+    let b = c.byte_at-b.result in
+    break_c (drop c.args.at c.args.text.now)
+    ≡ cond (eqb a 92 && eqb b 10) 2 (cond (eqb a 92 && eqb b 13 && eqb c.byte_at-c.result 10) 3 0)
 unfolding break_c
-read c = simp (c.before.before.byte_at.ensures, c.before.byte-at2.ensures, c.byte-at3.ensures, get_or-drop, add-zero)
+read c = simp (c.byte_at-a.ensures, c.byte_at-b.ensures, c.byte_at-c.ensures, get_or-drop, add-zero)
 
-returns : tie.Need-returns
+returns : tie.Need-returns-then-a-b
 returns c =
-    let r : tie.After-byte-at3 = c.before in
-    let b = r.before.byte-at2 in
-    let e = sym b.ensures ∙ eqb-true b.result 10 (and_right (eqb r.before.before.byte_at.result 92) (eqb b.result 10) c.if1.true) in
-    (simp (read r, c.if1.true), omega (arith, inside r.before.before.before.before.args.text.now _ 10 (omega arith) e))
+    let r : tie.After-byte_at-c = c.before in
+    let b = r.byte_at-b in
+    let e = sym b.ensures ∙ eqb-true b.result 10 (and_right (eqb r.byte_at-a.result 92) (eqb b.result 10) c.if-a-b.true) in
+    (simp (read r, c.if-a-b.true), omega (arith, inside r.args.text.now _ 10 (omega arith) e))
 
-returns-2 : tie.Need-returns-2
+returns-2 : tie.Need-returns-then-a-b-2
 returns-2 c =
-    let r : tie.After-byte-at3 = c.before.before in
-    let d = r.byte-at3 in
+    let r : tie.After-byte_at-c = c.before.before in
+    let d = r.byte_at-c in
     let e = sym d.ensures
-    ∙ eqb-true d.result 10 (and_right (eqb r.before.before.byte_at.result 92 && eqb r.before.byte-at2.result 13) (eqb d.result 10) c.if2.true) in
-    (simp (read r, c.before.if1.false, c.if2.true), omega (arith, inside r.before.before.before.before.args.text.now _ 10 (omega arith) e))
+    ∙ eqb-true d.result 10 (and_right (eqb r.byte_at-a.result 92 && eqb r.byte_at-b.result 13) (eqb d.result 10) c.if-a-b-2.true) in
+    (simp (read r, c.if-a-b.false, c.if-a-b-2.true), omega (arith, inside r.args.text.now _ 10 (omega arith) e))
 
-pub break-c-spec : {M : Type 1} → statement M
-break-c-spec =
+pub break_c_spec : {M : Type 1} → statement M
+break_c_spec =
     tie.close
     (tie.spec
     (λ c κs. search rules)
@@ -49,4 +49,4 @@ break-c-spec =
     (λ c κs. search rules)
     returns
     returns-2
-    (λ c. (simp (read c.before.before, c.before.if1.false, c.if2.false), search rules)))
+    (λ c. (simp (read c.before.before, c.if-a-b.false, c.if-a-b-2.false), search rules)))

@@ -12,41 +12,41 @@ use Rattle.lexer.proofs.Continuing.{break-f-at}
 use Rattle.lexer.proofs.continuation.break_f.Statement.{statement}
 use Rattle.lexer.proofs.continuation.break_f.Tie as tie
 
-returns : tie.Need-returns
+returns : tie.Need-returns-then-byte_at-ne38
 unfolding break_f
-returns c = (simp (get_or-drop, add-zero, ← c.before.byte_at.ensures, ne_eqb _ _ c.if1.true), search rules)
+returns c = (simp (get_or-drop, add-zero, ← c.byte_at.ensures, ne_eqb _ _ c.if-byte_at-ne38.true), search rules)
 
-run-end-requires : tie.Need-run-end-requires
-run-end-requires c κs = omega (arith, inside c.before.before.before.args.text.now _ 38 (omega arith) (sym c.before.byte_at.ensures ∙ c.if1.false))
+run-end-requires : tie.Need-run_end-blanks-requires
+run-end-requires c κs = omega (arith, inside c.args.text.now _ 38 (omega arith) (sym c.byte_at.ensures ∙ c.if-byte_at-ne38.false))
 
-returns-2 : tie.Need-returns-2
+returns-2 : tie.Need-returns-then-n-eq0
 returns-2 c =
-    let r : tie.After-eol = c.before in
+    let r : tie.After-eol-n = c.before in
     let b = r.before.before.before in
-    let a = b.before.before.before.args in (
+    let a = b.args in (
       simp (
-        break-f-at a.text.now a.at _ _ (sym b.before.byte_at.ensures ∙ b.if1.false) r.before.before.run-end.ensures.0 r.before.comment-end.ensures.0,
-        sym r.eol.ensures.0 ∙ c.if2.true,
+        break-f-at a.text.now a.at _ _ (sym b.byte_at.ensures ∙ b.if-byte_at-ne38.false) r.run_end-blanks.ensures.0 r.comment_end-stop.ensures.0,
+        sym r.eol-n.ensures.0 ∙ c.if-n-eq0.true,
       ),
       search rules,
     )
 
-returns-3 : tie.Need-returns-3
+returns-3 : tie.Need-returns
 returns-3 c =
-    let r : tie.After-eol = c.before.before in
+    let r : tie.After-eol-n = c.before.before in
     let b = r.before.before.before in
-    let a = b.before.before.before.args in (
+    let a = b.args in (
       simp (
-        break-f-at a.text.now a.at _ _ (sym b.before.byte_at.ensures ∙ b.if1.false) r.before.before.run-end.ensures.0 r.before.comment-end.ensures.0,
-        ← r.eol.ensures.0,
-        lt-ltb 0 r.eol.result (omega arith),
+        break-f-at a.text.now a.at _ _ (sym b.byte_at.ensures ∙ b.if-byte_at-ne38.false) r.run_end-blanks.ensures.0 r.comment_end-stop.ensures.0,
+        ← r.eol-n.ensures.0,
+        lt-ltb 0 r.eol-n.result (omega arith),
         c.lead.ensures.0,
       ),
       omega arith,
     )
 
-pub break-f-spec : {M : Type 1} → statement M
-break-f-spec =
+pub break_f_spec : {M : Type 1} → statement M
+break_f_spec =
     tie.close
     (tie.spec
     (λ c κs. search rules)

@@ -8,10 +8,10 @@ use Rattle.lexer.proofs.continuation.is_boundary.Statement.{statement}
 use Rattle.lexer.proofs.continuation.is_boundary.Tie as tie
 
 returns : tie.Need-returns
-returns c = simp (c.is-eol.ensures, c.before.is-blank.ensures, c.before.before.byte_at.ensures, get_or-drop, add-zero, length-drop)
+returns c = simp (c.is_eol.ensures, c.is_blank.ensures, c.byte_at-b.ensures, get_or-drop, add-zero, length-drop)
 
-pub is-boundary-spec : {M : Type 1} → statement M
-is-boundary-spec =
+pub is_boundary_spec : {M : Type 1} → statement M
+is_boundary_spec =
     tie.close
     (tie.spec
     (λ c κs. search rules)

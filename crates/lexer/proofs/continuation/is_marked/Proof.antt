@@ -15,9 +15,9 @@ use Rattle.lexer.proofs.continuation.is_marked.Tie as tie
 
 returns : tie.Need-returns
 returns c =
-    let a = c.before.before.byte_at in
-    let b = c.before.byte-at2 in
-    let args = c.before.before.before.before.args in (
+    let a = c.byte_at-a in
+    let b = c.byte_at-b in
+    let args = c.args in (
       simp (c.fold.ensures, a.ensures, b.ensures, get_or-drop, add-zero),
       λ e. omega (
         arith,
@@ -26,8 +26,8 @@ returns c =
       ),
     )
 
-pub is-marked-spec : {M : Type 1} → statement M
-is-marked-spec =
+pub is_marked_spec : {M : Type 1} → statement M
+is_marked_spec =
     tie.close
     (tie.spec
     (λ c κs. search rules)

@@ -8,16 +8,16 @@ use borrow.Author.Tests.{ne_eqb}
 use Rattle.lexer.proofs.continuation.opening_sentinel.Statement.{statement}
 use Rattle.lexer.proofs.continuation.opening_sentinel.Tie as tie
 
-returns : tie.Need-returns
-returns c = (simp (c.before.before.enum-told2.given.1, get_or-drop, add-zero, ← c.before.byte_at.ensures, ne_eqb _ _ c.if1.true), search rules)
+returns : tie.Need-returns-then-byte_at-ne33
+returns c = (simp (c.in-FortranFree.is, get_or-drop, add-zero, ← c.byte_at.ensures, ne_eqb _ _ c.if-byte_at-ne33.true), search rules)
 
-returns-3 : tie.Need-returns-3
+returns-3 : tie.Need-returns-else-byte_at-ne33
 returns-3 c =
-    let b = c.before.before.byte_at in
-    (simp (c.before.before.before.enum-told2.given.1, get_or-drop, add-zero, sym b.ensures ∙ c.before.if1.false) c.sentinel.ensures.0, c.sentinel.ensures.1)
+    let b = c.byte_at in
+    (simp (c.in-FortranFree.is, get_or-drop, add-zero, sym b.ensures ∙ c.if-byte_at-ne33.false) c.sentinel.ensures.0, c.sentinel.ensures.1)
 
-pub opening-sentinel-spec : {M : Type 1} → statement M
-opening-sentinel-spec =
+pub opening_sentinel_spec : {M : Type 1} → statement M
+opening_sentinel_spec =
     tie.close
     (tie.spec
     (λ c. search rules)
@@ -29,4 +29,4 @@ opening-sentinel-spec =
     (λ c κs. search rules)
     (λ c. search rules)
     returns-3
-    (λ c. (rw c.before.enum-told3.given.1 c.sentinel2.ensures.0, c.sentinel2.ensures.1)))
+    (λ c. (rw c.in-FortranFixed.is c.sentinel-in-FortranFixed.ensures.0, c.sentinel-in-FortranFixed.ensures.1)))

@@ -4,8 +4,8 @@ use borrow.Author.Rules.{rules}
 use Rattle.lexer.proofs.continuation.prefix_at.Statement.{statement}
 use Rattle.lexer.proofs.continuation.prefix_at.Tie as tie
 
-pub prefix-at-spec : {M : Type 1} → statement M
-prefix-at-spec =
+pub prefix_at_spec : {M : Type 1} → statement M
+prefix_at_spec =
     tie.close
     (tie.spec
     (λ c. search rules)
@@ -14,5 +14,5 @@ prefix-at-spec =
     (λ c. search rules)
     (λ c. search rules)
     (λ c κs. search rules)
-    (λ c. rw c.before.before.enum_told.given.1 c.begins-at.ensures)
-    (λ c. rw c.before.before.enum-told2.given.1 c.begins-at2.ensures))
+    (λ c. rw c.in-Omp.is c.begins_at.ensures)
+    (λ c. rw c.in-Acc.is c.begins_at-in-Acc.ensures))

@@ -6,14 +6,14 @@ use Rattle.lexer.specs.Continuation.{sentinel_any}
 use Rattle.lexer.proofs.continuation.sentinel_any.Statement.{statement}
 use Rattle.lexer.proofs.continuation.sentinel_any.Tie as tie
 
-returns : tie.Need-returns
+returns : tie.Need-returns-then-omp-acc
 unfolding sentinel_any
 returns c = (omega arith, search rules)
 
-returns-2 : tie.Need-returns-2
+returns-2 : tie.Need-returns-else-omp-acc
 unfolding sentinel_any
 returns-2 c = (omega arith, search rules)
 
-pub sentinel-any-spec : {M : Type 1} → statement M
-sentinel-any-spec =
+pub sentinel_any_spec : {M : Type 1} → statement M
+sentinel_any_spec =
     tie.close (tie.spec (λ c κs. search rules) (λ c κs. search rules) returns returns-2)

@@ -7,18 +7,18 @@ use Rattle.lexer.specs.Continuation.{sentinel_ended}
 use Rattle.lexer.proofs.continuation.sentinel_ended.Statement.{statement}
 use Rattle.lexer.proofs.continuation.sentinel_ended.Tie as tie
 
-returns : tie.Need-returns
+returns : tie.Need-returns-then-is_boundary
 unfolding sentinel_ended
 returns c =
-    let n = c.before.before.sentinel.ensures in
-    (simp (← n.0, drop-drop, sym c.before.is-boundary.ensures ∙ c.if1.true), n.1)
+    let n = c.sentinel-n.ensures in
+    (simp (← n.0, drop-drop, sym c.is_boundary.ensures ∙ c.if-is_boundary.true), n.1)
 
-returns-2 : tie.Need-returns-2
+returns-2 : tie.Need-returns-else-is_boundary
 unfolding sentinel_ended
 returns-2 c =
-    let n = c.before.before.sentinel.ensures in
-    (simp (← n.0, drop-drop, sym c.before.is-boundary.ensures ∙ c.if1.false), search rules)
+    let n = c.sentinel-n.ensures in
+    (simp (← n.0, drop-drop, sym c.is_boundary.ensures ∙ c.if-is_boundary.false), search rules)
 
-pub sentinel-ended-spec : {M : Type 1} → statement M
-sentinel-ended-spec =
+pub sentinel_ended_spec : {M : Type 1} → statement M
+sentinel_ended_spec =
     tie.close (tie.spec (λ c κs. search rules) (λ c. search rules) (λ c κs. search rules) returns returns-2)

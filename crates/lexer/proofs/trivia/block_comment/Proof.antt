@@ -11,25 +11,25 @@ use Rattle.lexer.proofs.Skipping.{closed_some, closed_none}
 use Rattle.lexer.proofs.trivia.block_comment.Statement.{statement}
 use Rattle.lexer.proofs.trivia.block_comment.Tie as tie
 
-within : (c : tie.After-known-told) →
-    let a = c.before.before.before.before.before.args in
-    Ends (a.at + 2) (length a.text.now) (Before c.before.end.given.0.0)
-within c = subst (Ends _ _) c.before.end.given.1 c.before.before.before.block-end.ensures.1
+within : (c : tie.In-Before) →
+    let a = c.args in
+    Ends (a.at + 2) (length a.text.now) (Before c.in-Before.end)
+within c = subst (Ends _ _) c.in-Before.is c.block_end.ensures.1
 
-returns : tie.Need-returns
+returns : tie.Need-returns-in-Before
 returns c =
-    let a = c.before.before.before.before.before.args in (
-      closed_some a.at _ (block_end (drop (a.at + 2) a.text.now)) (sym (ap end_of c.before.end.given.1) ∙ c.before.before.before.block-end.ensures.0),
+    let a = c.args in (
+      closed_some a.at _ (block_end (drop (a.at + 2) a.text.now)) (sym (ap end_of c.in-Before.is) ∙ c.block_end.ensures.0),
       omega (arith, within c),
     )
 
-returns-2 : tie.Need-returns-2
+returns-2 : tie.Need-returns-in-Never
 returns-2 c =
-    let a = c.before.before.before.before.args in
-    (closed_none (a.at + 2) (block_end (drop (a.at + 2) a.text.now)) (sym (ap end_of c.enum_told.given.1) ∙ c.before.before.block-end.ensures.0), tt)
+    let a = c.args in
+    (closed_none (a.at + 2) (block_end (drop (a.at + 2) a.text.now)) (sym (ap end_of c.in-Never.is) ∙ c.block_end.ensures.0), tt)
 
-pub block-comment-spec : {M : Type 1} → statement M
-block-comment-spec =
+pub block_comment_spec : {M : Type 1} → statement M
+block_comment_spec =
     tie.close
     (tie.spec
     (λ c. search rules)

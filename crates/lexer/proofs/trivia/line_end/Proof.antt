@@ -12,33 +12,33 @@ use Rattle.lexer.proofs.Skipping.{upto-here, upto-later, upto-none}
 use Rattle.lexer.proofs.trivia.line_end.Statement.{statement}
 use Rattle.lexer.proofs.trivia.line_end.Tie as tie
 
-abbrev invariant-loop : tie.invariant-loop
-invariant-loop text from i₀ i = (from ≤ i) × (i ≤ length text) × (i + up_to is_line_feed (drop i text) ≡ from + up_to is_line_feed (drop from text))
+abbrev invariant-loop-i : tie.invariant-loop-i
+invariant-loop-i text from i₀ i = (from ≤ i) × (i ≤ length text) × (i + up_to is_line_feed (drop i text) ≡ from + up_to is_line_feed (drop from text))
 
-abbrev decreases-loop : tie.decreases-loop
-decreases-loop text from i₀ i = length text - i
+abbrev decreases-loop-i : tie.decreases-loop-i
+decreases-loop-i text from i₀ i = length text - i
 
-returns : tie.Need-returns invariant-loop decreases-loop
+returns : tie.Need-returns-then-text-i-eq10 invariant-loop-i decreases-loop-i
 returns c =
-    let l : tie.In-loop invariant-loop decreases-loop = c.before.before in
-    let s = l.before.before.args.text.now in
-    (omega (arith, upto-here is_line_feed s l.before.loop.i l.loop-test.true (eq-eqb _ _ c.if1.true)), omega arith)
+    let l : tie.In-loop-i invariant-loop-i decreases-loop-i = c.before.before in
+    let s = l.args.text.now in
+    (omega (arith, upto-here is_line_feed s l.loop-i.i l.loop-i-test.true (eq-eqb _ _ c.if-text-i-eq10.true)), omega arith)
 
-loop-again : tie.Need-loop-preserved invariant-loop decreases-loop
+loop-again : tie.Need-loop-i-preserved invariant-loop-i decreases-loop-i
 loop-again c =
-    let l : tie.In-loop invariant-loop decreases-loop = c.before.before in
-    let s = l.before.before.args.text.now in
-    (omega arith, omega arith, omega (arith, upto-later is_line_feed s l.before.loop.i l.loop-test.true (ne_eqb _ _ c.if1.false)))
+    let l : tie.In-loop-i invariant-loop-i decreases-loop-i = c.before.before in
+    let s = l.args.text.now in
+    (omega arith, omega arith, omega (arith, upto-later is_line_feed s l.loop-i.i l.loop-i-test.true (ne_eqb _ _ c.if-text-i-eq10.false)))
 
-returns-2 : tie.Need-returns-2 invariant-loop decreases-loop
-returns-2 c = (rw (upto-none, c.loop-test.false, add-zero) at c.before.loop.invariant.2, omega arith)
+returns-2 : tie.Need-returns invariant-loop-i decreases-loop-i
+returns-2 c = (rw (upto-none, c.loop-i-test.false, add-zero) at c.loop-i.invariant.2, omega arith)
 
-pub line-end-spec : {M : Type 1} → statement M
-line-end-spec =
+pub line_end_spec : {M : Type 1} → statement M
+line_end_spec =
     tie.close
     (tie.spec
-    invariant-loop
-    decreases-loop
+    invariant-loop-i
+    decreases-loop-i
     (λ c. (omega arith, omega arith, refl))
     (λ c. omega arith)
     (λ c. omega arith)

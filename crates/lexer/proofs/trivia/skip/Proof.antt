@@ -11,53 +11,53 @@ use Rattle.lexer.proofs.Skipping.{skip-end, skip-open, skip-none, skip-run}
 use Rattle.lexer.proofs.trivia.skip.Statement.{statement}
 use Rattle.lexer.proofs.trivia.skip.Tie as tie
 
-abbrev invariant-loop : tie.invariant-loop
-invariant-loop text at fortran i₀ i = (at ≤ i) × (i ≤ length text) × (skip_from fortran 0 i (drop i text) ≡ skip fortran text at)
+abbrev invariant-loop-i : tie.invariant-loop-i
+invariant-loop-i text at fortran i₀ i = (at ≤ i) × (i ≤ length text) × (skip_from fortran 0 i (drop i text) ≡ skip fortran text at)
 
-abbrev decreases-loop : tie.decreases-loop
-decreases-loop text at fortran i₀ i = length text - i
+abbrev decreases-loop-i : tie.decreases-loop-i
+decreases-loop-i text at fortran i₀ i = length text - i
 
-loop-holds : tie.Need-loop-init invariant-loop decreases-loop
+loop-holds : tie.Need-loop-i-init invariant-loop-i decreases-loop-i
 unfolding skip
 loop-holds c = (omega arith, omega arith, refl)
 
-returns : tie.Need-returns invariant-loop decreases-loop
+returns : tie.Need-returns-in-Open invariant-loop-i decreases-loop-i
 returns c =
-    let t : tie.After-trivia-at invariant-loop decreases-loop = c.before.before in
+    let t : tie.After-trivia_at invariant-loop-i decreases-loop-i = c.before in
     let l = t.before in
-    (sym (skip-open _ _ _ l.loop-test.true (sym t.trivia-at.ensures.0 ∙ c.enum_told.given.1)) ∙ l.before.loop.invariant.2, omega arith)
+    (sym (skip-open _ _ _ l.loop-i-test.true (sym t.trivia_at.ensures.0 ∙ c.in-Open.is)) ∙ l.loop-i.invariant.2, omega arith)
 
 -- the run of trivia stays within the text
-fits : (c : tie.After-known-told invariant-loop decreases-loop) →
-    let t = c.before.before.before.before in
-    Fits t.before.loop.i (length t.before.before.before.args.text.now) (Run c.before.n.given.0.0)
-fits c = subst (Fits _ _) c.before.n.given.1 c.before.before.before.trivia-at.ensures.1
+fits : (c : tie.In-Run invariant-loop-i decreases-loop-i) →
+    let t = c.before.before in
+    Fits t.loop-i.i (length t.args.text.now) (Run c.in-Run.n)
+fits c = subst (Fits _ _) c.in-Run.is c.trivia_at.ensures.1
 
-returns-2 : tie.Need-returns-2 invariant-loop decreases-loop
+returns-2 : tie.Need-returns-then-n-eq0 invariant-loop-i decreases-loop-i
 returns-2 c =
-    let t : tie.After-trivia-at invariant-loop decreases-loop = c.before.before.before.before in
+    let t : tie.After-trivia_at invariant-loop-i decreases-loop-i = c.before.before in
     let l = t.before in
-    let a = l.before.before.before.args in
-    let e = sym t.trivia-at.ensures.0 ∙ c.before.before.n.given.1 in
-    (sym (skip-none a.fortran a.text.now _ l.loop-test.true (rw c.if1.true at e)) ∙ l.before.loop.invariant.2, omega arith)
+    let a = l.args in
+    let e = sym t.trivia_at.ensures.0 ∙ c.in-Run.is in
+    (sym (skip-none a.fortran a.text.now _ l.loop-i-test.true (rw c.if-n-eq0.true at e)) ∙ l.loop-i.invariant.2, omega arith)
 
-loop-again : tie.Need-loop-preserved invariant-loop decreases-loop
+loop-again : tie.Need-loop-i-preserved invariant-loop-i decreases-loop-i
 loop-again c =
-    let t : tie.After-trivia-at invariant-loop decreases-loop = c.before.before.before.before in
+    let t : tie.After-trivia_at invariant-loop-i decreases-loop-i = c.before.before in
     let l = t.before in
-    let a = l.before.before.before.args in
-    let e = sym t.trivia-at.ensures.0 ∙ c.before.before.n.given.1 in (
+    let a = l.args in
+    let e = sym t.trivia_at.ensures.0 ∙ c.in-Run.is in (
       omega arith,
       omega (arith, fits c.before),
-      sym (skip-run a.fortran a.text.now l.before.loop.i _ (fits c.before) e c.if1.false) ∙ l.before.loop.invariant.2,
+      sym (skip-run a.fortran a.text.now l.loop-i.i _ (fits c.before) e c.if-n-eq0.false) ∙ l.loop-i.invariant.2,
     )
 
-pub skip-spec : {M : Type 1} → statement M
-skip-spec =
+pub skip_spec : {M : Type 1} → statement M
+skip_spec =
     tie.close
     (tie.spec
-    invariant-loop
-    decreases-loop
+    invariant-loop-i
+    decreases-loop-i
     loop-holds
     (λ c κs. omega arith)
     (λ c. search rules)
@@ -67,4 +67,4 @@ skip-spec =
     (λ c. omega (arith, fits c.before))
     (λ c. omega (arith, fits c.before))
     loop-again
-    (λ c. (sym (skip-end _ _ _ c.loop-test.false) ∙ c.before.loop.invariant.2, omega arith)))
+    (λ c. (sym (skip-end _ _ _ c.loop-i-test.false) ∙ c.loop-i.invariant.2, omega arith)))

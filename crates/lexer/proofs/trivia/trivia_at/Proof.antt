@@ -4,11 +4,11 @@ use borrow.Author.Rules.{rules}
 use Rattle.lexer.proofs.trivia.trivia_at.Statement.{statement}
 use Rattle.lexer.proofs.trivia.trivia_at.Tie as tie
 
-pub trivia-at-spec : {M : Type 1} → statement M
-trivia-at-spec =
+pub trivia_at_spec : {M : Type 1} → statement M
+trivia_at_spec =
     tie.close
     (tie.spec
     (λ c κs. search rules)
     (λ c κs. search rules)
-    (λ c. (rw c.before.if1.true c.trivia-f.ensures.0, c.trivia-f.ensures.1))
-    (λ c. (rw c.before.if1.false c.trivia-c.ensures.0, c.trivia-c.ensures.1)))
+    (λ c. (rw c.if-fortran.true c.trivia_f.ensures.0, c.trivia_f.ensures.1))
+    (λ c. (rw c.if-fortran.false c.trivia_c.ensures.0, c.trivia_c.ensures.1)))

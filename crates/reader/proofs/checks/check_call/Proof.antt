@@ -7,30 +7,30 @@ use Rattle.reader.proofs.Checking.{call-text, call-short, call-book}
 use Rattle.reader.proofs.checks.check_call.Statement.{statement}
 use Rattle.reader.proofs.checks.check_call.Tie as tie
 
-returns : tie.Need-returns
-returns c = sym (call-text _ _ _ _ _ (sym c.before.before.before.check-text.ensures ∙ c.before.admitted.given.1))
+returns : tie.Need-returns-in-Bad
+returns c = sym (call-text _ _ _ _ _ (sym c.check_text-admitted.ensures ∙ c.in-Bad.is))
 
-returns-2 : tie.Need-returns-2
+returns-2 : tie.Need-returns-then-is_short
 returns-2 c =
-    let t : tie.After-enum-told = c.before.before in
-    sym (call-short _ _ _ _ (sym t.before.before.check-text.ensures ∙ t.enum_told.given.1) (sym c.before.is-short.ensures ∙ c.if1.true))
+    let t : tie.In_default = c.before.before in
+    sym (call-short _ _ _ _ (sym t.check_text-admitted.ensures ∙ t.in_default.is) (sym c.is_short.ensures ∙ c.if-is_short.true))
 
-returns-3 : tie.Need-returns-3
+returns-3 : tie.Need-returns-in-Valid
 returns-3 c =
-    let b : tie.After-is-short = c.before.before.before in
-    let t : tie.After-enum-told = b.before in
-    ap book_gives (sym c.enum-told2.given.1)
-    ∙ sym (call-book _ _ _ _ (sym t.before.before.check-text.ensures ∙ t.enum_told.given.1) (sym b.is-short.ensures ∙ c.before.before.if1.false))
+    let b : tie.After-is_short = c.before.before in
+    let t : tie.In_default = b.before in
+    ap book_gives (sym c.in-Valid.is)
+    ∙ sym (call-book _ _ _ _ (sym t.check_text-admitted.ensures ∙ t.in_default.is) (sym b.is_short.ensures ∙ c.if-is_short.false))
 
-returns-4 : tie.Need-returns-4
+returns-4 : tie.Need-returns-in-Refused
 returns-4 c =
-    let b : tie.After-is-short = c.before.before.before.before in
-    let t : tie.After-enum-told = b.before in
-    ap book_gives (sym c.before.book.given.1)
-    ∙ sym (call-book _ _ _ _ (sym t.before.before.check-text.ensures ∙ t.enum_told.given.1) (sym b.is-short.ensures ∙ c.before.before.before.if1.false))
+    let b : tie.After-is_short = c.before.before in
+    let t : tie.In_default = b.before in
+    ap book_gives (sym c.in-Refused.is)
+    ∙ sym (call-book _ _ _ _ (sym t.check_text-admitted.ensures ∙ t.in_default.is) (sym b.is_short.ensures ∙ c.if-is_short.false))
 
-pub check-call-spec : {M : Type 1} → statement M
-check-call-spec =
+pub check_call_spec : {M : Type 1} → statement M
+check_call_spec =
     tie.close
     (tie.spec
     (λ c κs. search rules)

@@ -8,26 +8,26 @@ use Rattle.reader.specs.Steps.{line_check}
 use Rattle.reader.proofs.checks.check_line.Statement.{statement}
 use Rattle.reader.proofs.checks.check_line.Tie as tie
 
-returns : tie.Need-returns
+returns : tie.Need-returns-then-not-is_suited
 unfolding line_check
-returns c = simp (sym c.before.is-suited.ensures ∙ not-true c.before.is-suited.result c.if1.true)
+returns c = simp (sym c.is_suited.ensures ∙ not-true c.is_suited.result c.if-not-is_suited.true-raw)
 
-returns-2 : tie.Need-returns-2
+returns-2 : tie.Need-returns-in-Nothing
 unfolding line_check
 returns-2 c =
-    let v : tie.After-validate-logical-line = c.before.before in
-    let s = v.before.before.is-suited in
-    simp (sym s.ensures ∙ not-false s.result v.before.if1.false, sym v.validate-logical-line.ensures ∙ ap found_at c.enum_told.given.1)
+    let v : tie.After-validate_logical_line = c.before in
+    let s = v.is_suited in
+    simp (sym s.ensures ∙ not-false s.result v.if-not-is_suited.false-raw, sym v.validate_logical_line.ensures ∙ ap found_at c.in-Nothing.is)
 
-returns-3 : tie.Need-returns-3
+returns-3 : tie.Need-returns-in-At
 unfolding line_check
 returns-3 c =
-    let v : tie.After-validate-logical-line = c.before.before.before in
-    let s = v.before.before.is-suited in
-    simp (sym s.ensures ∙ not-false s.result v.before.if1.false, sym v.validate-logical-line.ensures ∙ ap found_at c.before.place.given.1)
+    let v : tie.After-validate_logical_line = c.before in
+    let s = v.is_suited in
+    simp (sym s.ensures ∙ not-false s.result v.if-not-is_suited.false-raw, sym v.validate_logical_line.ensures ∙ ap found_at c.in-At.is)
 
-pub check-line-spec : {M : Type 1} → statement M
-check-line-spec =
+pub check_line_spec : {M : Type 1} → statement M
+check_line_spec =
     tie.close
     (tie.spec
     (λ c κs. search rules)

@@ -4,11 +4,11 @@ use borrow.Author.Rules.{rules}
 use Rattle.reader.proofs.heading.answer_of.Statement.{statement}
 use Rattle.reader.proofs.heading.answer_of.Tie as tie
 
-pub answer-of-spec : {M : Type 1} → statement M
-answer-of-spec =
+pub answer_of_spec : {M : Type 1} → statement M
+answer_of_spec =
     tie.close
     (tie.spec
     (λ c. search rules)
     (λ c. search rules)
-    (λ c. rw c.before.clauses.given.1)
-    (λ c. rw c.before.clauses2.given.1))
+    (λ c. rw c.in-Refused.is)
+    (λ c. rw c.in-Read.is))

@@ -10,25 +10,25 @@ use Rattle.reader.proofs.Headed.{name-ends, heads-refused, heads-found}
 use Rattle.reader.proofs.heading.head_of.Statement.{statement}
 use Rattle.reader.proofs.heading.head_of.Tie as tie
 
-read-name-requires : tie.Need-read-name-requires
+read-name-requires : tie.Need-read_name-requires
 read-name-requires c κs =
-    let p = c.before.before.before.requires in
+    let p = c.requires in
     (valid-form _ p.0, (p.1.0, rw p.1.0 (p.1.1.0.directives p.0)))
 
-returns : tie.Need-returns
+returns : tie.Need-returns-in-Refused
 returns c =
-    let k : tie.After-known-told = c.before in
-    rw c.refused-head.ensures (heads-refused _ _ _ _ _ _ (sym k.before.before.before.read_name.ensures ∙ ap name_gives k.before.why.given.1))
+    let k : tie.In-Refused = c.before in
+    rw c.refused_head.ensures (heads-refused _ _ _ _ _ _ (sym k.read_name.ensures ∙ ap name_gives k.in-Refused.is))
 
-returns-2 : tie.Need-returns-2
+returns-2 : tie.Need-returns-in-Found
 returns-2 c =
-    let k : tie.After-known-told2 = c.before in
-    let a = k.before.before.before.before.before.before.before.args in
-    let p = k.before.before.before.before.before.before.before.requires in
-    rw (c.start-at.ensures ∙ start_is a.book.now a.text.now a.slots _ _ p.1.0) (heads-found _ _ _ _ _ _ (sym k.before.before.before.read_name.ensures ∙ ap name_gives k.before.name.given.1) p.0 p.1.1.1)
+    let k : tie.In-Found = c.before in
+    let a = k.args in
+    let p = k.requires in
+    rw (c.start_at.ensures ∙ start_is a.book.now a.text.now a.slots _ _ p.1.0) (heads-found _ _ _ _ _ _ (sym k.read_name.ensures ∙ ap name_gives k.in-Found.is) p.0 p.1.1.1)
 
-pub head-of-spec : {M : Type 1} → statement M
-head-of-spec =
+pub head_of_spec : {M : Type 1} → statement M
+head_of_spec =
     tie.close
     (tie.spec
     read-name-requires
@@ -36,7 +36,7 @@ head-of-spec =
     (λ c κs. search rules)
     (λ c. search rules)
     (λ c. search rules)
-    (λ c κs. let a = c.before.before.before.before.before.before.before.args in
-    name-ends (book_of a.book.now) a.language a.prefix a.slots a.text.now _ (sym c.before.before.before.read_name.ensures ∙ ap name_gives c.before.name.given.1))
+    (λ c κs. let a = c.args in
+    name-ends (book_of a.book.now) a.language a.prefix a.slots a.text.now _ (sym c.read_name.ensures ∙ ap name_gives c.in-Found.is))
     returns
     returns-2)

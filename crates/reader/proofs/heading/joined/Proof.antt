@@ -6,5 +6,5 @@ use borrow.Author.Rules.{rules}
 use Rattle.reader.proofs.heading.joined.Statement.{statement}
 use Rattle.reader.proofs.heading.joined.Tie as tie
 
-pub joined-spec : {M : Type 1} → statement M
-joined-spec = tie.close (tie.spec (λ c. sym (length-take-le _ _ (search rules))) (λ c. search rules))
+pub joined_spec : {M : Type 1} → statement M
+joined_spec = tie.close (tie.spec (λ c. sym (length-take-le _ _ (search rules))) (λ c. search rules))

@@ -6,21 +6,21 @@ use Rattle.lexer.specs.Steps.{step_of, Forward}
 use Rattle.reader.proofs.heading.read_name.Statement.{statement}
 use Rattle.reader.proofs.heading.read_name.Tie as tie
 
-returns : tie.Need-returns
-returns c = rw (sym c.before.before.before.opening.ensures.0 ∙ ap step_of c.before.why.given.1)
+returns : tie.Need-returns-in-Refused
+returns c = rw (sym c.opening.ensures.0 ∙ ap step_of c.in-Refused.is)
 
-returns-2 : tie.Need-returns-2
+returns-2 : tie.Need-returns-in-At
 returns-2 c =
-    let k : tie.After-known-told2 = c.before in
-    rw (sym k.before.before.before.opening.ensures.0 ∙ ap step_of k.before.cursor.given.1) c.lex-name.ensures.0
+    let k : tie.In-At = c.before in
+    rw (sym k.opening.ensures.0 ∙ ap step_of k.in-At.is) c.lex_name.ensures.0
 
-pub read-name-spec : {M : Type 1} → statement M
-read-name-spec =
+pub read_name_spec : {M : Type 1} → statement M
+read_name_spec =
     tie.close
     (tie.spec
     (λ c κs. search rules)
     (λ c. search rules)
     (λ c. search rules)
-    (λ c κs. (search rules, (search rules, (search rules, (subst (Forward _ _) c.before.cursor.given.1 c.before.before.before.opening.ensures.1).1))))
+    (λ c κs. (search rules, (search rules, (search rules, (subst (Forward _ _) c.in-At.is c.opening.ensures.1).1))))
     returns
     returns-2)

@@ -4,5 +4,5 @@ use borrow.Author.Rules.{rules}
 use Rattle.reader.proofs.heading.refused_head.Statement.{statement}
 use Rattle.reader.proofs.heading.refused_head.Tie as tie
 
-pub refused-head-spec : {M : Type 1} → statement M
-refused-head-spec = tie.close (tie.spec (λ c κs. search rules) (λ c. rw c.refused-start.ensures))
+pub refused_head_spec : {M : Type 1} → statement M
+refused_head_spec = tie.close (tie.spec (λ c κs. search rules) (λ c. rw c.refused_start.ensures))

@@ -7,15 +7,15 @@ use Rattle.reader.proofs.Headed.{kept_less}
 use Rattle.reader.proofs.heading.settle.Statement.{statement}
 use Rattle.reader.proofs.heading.settle.Tie as tie
 
-pub settle-spec : {M : Type 1} → statement M
-settle-spec =
+pub settle_spec : {M : Type 1} → statement M
+settle_spec =
     tie.close
     (tie.spec
     (λ c κs. search rules)
-    (λ c κs. let a = c.before.before.before.before.args in omega (arith, c.kept.ensures, kept_less a.head.length a.clauses))
+    (λ c κs. let a = c.args in omega (arith, c.kept.ensures, kept_less a.head.length a.clauses))
     (λ c κs. search rules)
-    (λ c κs. let a = c.before.before.before.before.before.before.before.before.before.args in omega (arith, c.kept2.ensures, kept_less a.head.mapped a.clauses))
+    (λ c κs. let a = c.args in omega (arith, c.kept-2.ensures, kept_less a.head.mapped a.clauses))
     (λ c κs. search rules)
     (λ c. search rules)
     (λ c. search rules)
-    (λ c. (c.answer-of.ensures, (rw c.before.before.before.before.before.before.before.before.before.before.kept.ensures at c.before.before.before.before.before.before.before.before.before.clear-bytes.ensures, rw c.before.before.before.before.before.kept2.ensures at c.before.before.before.before.clear-words.ensures))))
+    (λ c. (c.answer_of.ensures, (rw c.kept.ensures at c.clear_bytes.ensures, rw c.kept-2.ensures at c.clear_words.ensures))))

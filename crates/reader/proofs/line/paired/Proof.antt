@@ -11,5 +11,5 @@ returns c =
     let same : both ≡ both = refl in
     same
 
-pub paired-spec : {M : Type 1} → statement M
-paired-spec = tie.close (tie.spec returns)
+pub paired_spec : {M : Type 1} → statement M
+paired_spec = tie.close (tie.spec returns)

@@ -9,20 +9,20 @@ use Rattle.reader.proofs.many.line_answer.Tie as tie
 
 returns : tie.Need-returns
 returns c =
-    let a = c.before.before.before.before.before.before.before.before.before.before.before.before.before.before.before.before.before.args in
-    let h = c.before.before.before.before.before.before.before.before.before.head-under in
+    let a = c.args in
+    let h = c.head_under-head in
     rw (h.auto.1.1.1.1.1.1.0, h.auto.1.1.1.1.1.1.1.0)
-    at (line-answers a.language a.prefix a.book.now a.line.now a.slots h.new.1.1.1.1.1.1.0 h.new.1.1.1.1.1.1.1.0 h.result c.before.before.count-clauses.result c.answer-of.result
-    h.ensures c.before.before.count-clauses.ensures c.answer-of.ensures)
+    at (line-answers a.language a.prefix a.book.now a.line.now a.slots h.new.1.1.1.1.1.1.0 h.new.1.1.1.1.1.1.1.0 h.result c.count_clauses-clauses.result c.answer_of.result
+    h.ensures c.count_clauses-clauses.ensures c.answer_of.ensures)
 
-pub line-answer-spec : {M : Type 1} → statement M
-line-answer-spec =
+pub line_answer_spec : {M : Type 1} → statement M
+line_answer_spec =
     tie.close
     (tie.spec
-    (λ c κs. c.before.before.before.before.before.before.before.requires)
-    (λ c. c.before.before.before.before.before.head-under.ensures.within.0)
-    (λ c. sym (length-take-le _ _ c.before.before.before.before.before.before.head-under.ensures.within.0))
-    (λ c κs. (c.before.before.before.before.before.before.head-under.ensures.started, c.before.before.before.before.before.before.before.before.before.before.before.before.before.before.requires.1))
+    (λ c κs. c.requires)
+    (λ c. c.head_under-head.ensures.within.0)
+    (λ c. sym (length-take-le _ _ c.head_under-head.ensures.within.0))
+    (λ c κs. (c.head_under-head.ensures.started, c.requires.1))
     (λ c κs. search rules)
     (λ c. search rules)
     (λ c. search rules)

@@ -6,8 +6,8 @@ use Rattle.reader.specs.Line.{opening_f}
 use Rattle.reader.proofs.opening.opening.Statement.{statement}
 use Rattle.reader.proofs.opening.opening.Tie as tie
 
-pub opening-spec : {M : Type 1} → statement M
-opening-spec =
+pub opening_spec : {M : Type 1} → statement M
+opening_spec =
     tie.close
     (tie.spec
     (λ c. search rules)
@@ -16,6 +16,6 @@ opening-spec =
     (λ c κs. search rules)
     (λ c. search rules)
     (λ c κs. search rules)
-    (λ c. (rw c.before.enum_told.given.1 c.opening-c.ensures.0, c.opening-c.ensures.1))
-    (λ c. let a = c.before.before.before.before.args in let e = c.before.enum-told2.given.1 in (rw e (c.opening-f.ensures.0 ∙ ap (λ l. opening_f l a.prefix a.text.now) e), c.opening-f.ensures.1))
-    (λ c. let a = c.before.before.before.before.args in let e = c.before.enum-told3.given.1 in (rw e (c.opening-f2.ensures.0 ∙ ap (λ l. opening_f l a.prefix a.text.now) e), c.opening-f2.ensures.1)))
+    (λ c. (rw c.in-C.is c.opening_c.ensures.0, c.opening_c.ensures.1))
+    (λ c. let a = c.args in let e = c.in-FortranFree.is in (rw e (c.opening_f.ensures.0 ∙ ap (λ l. opening_f l a.prefix a.text.now) e), c.opening_f.ensures.1))
+    (λ c. let a = c.args in let e = c.in-FortranFixed.is in (rw e (c.opening_f-in-FortranFixed.ensures.0 ∙ ap (λ l. opening_f l a.prefix a.text.now) e), c.opening_f-in-FortranFixed.ensures.1)))

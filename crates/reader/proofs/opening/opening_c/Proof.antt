@@ -14,69 +14,69 @@ use Rattle.reader.proofs.OpeningWords.{from_start}
 use Rattle.reader.proofs.opening.opening_c.Statement.{statement}
 use Rattle.reader.proofs.opening.opening_c.Tie as tie
 
-at_a : (c : tie.After-known-told)
-    → let t = c.before.before.before.before.before.args.text.now in
-    let a = c.before.a.given.0.0.at in
+at_a : (c : tie.In-At)
+    → let t = c.args.text.now in
+    let a = c.in-At.a.at in
     (trivia_step false t 0 ≡ given a) × (0 ≤ a) × (a ≤ length t)
 at_a c =
-    let r = c.before.before.before.trivia in
-    came-to c.before.a.given.1 r.ensures.0 r.ensures.1
+    let r = c.trivia in
+    came-to c.in-At.is r.ensures.0 r.ensures.1
 
-at_b : (c : tie.After-known-told3)
-    → let t = c.before.before.before.before.before.before.before.before.before.args.text.now in
-    let a = c.before.before.before.before.before.a.given.0.0.at in
-    let b = c.before.b.given.0.0.at in
+at_b : (c : tie.In-At-pragma)
+    → let t = c.args.text.now in
+    let a = c.in-At.a.at in
+    let b = c.in-At-pragma.b.at in
     (pragma_step t a ≡ given b) × (a ≤ b) × (b ≤ length t)
 at_b c =
-    let r = c.before.before.before.pragma in
-    came-to c.before.b.given.1 r.ensures.0 r.ensures.1
+    let r = c.pragma in
+    came-to c.in-At-pragma.is r.ensures.0 r.ensures.1
 
-at_c : (c : tie.After-known-told5)
-    → let t = c.before.before.before.before.before.before.before.before.before.before.before.before.before.args.text.now in
-    let b = c.before.before.before.before.before.b.given.0.0.at in
-    let d = c.before.c.given.0.0.at in
+at_c : (c : tie.In-At-some_trivia)
+    → let t = c.args.text.now in
+    let b = c.in-At-pragma.b.at in
+    let d = c.in-At-some_trivia.c.at in
     (some_trivia_step false t b ≡ given d) × (b ≤ d) × (d ≤ length t)
 at_c c =
-    let r = c.before.before.before.some-trivia in
-    came-to c.before.c.given.1 r.ensures.0 r.ensures.1
+    let r = c.some_trivia in
+    came-to c.in-At-some_trivia.is r.ensures.0 r.ensures.1
 
-at-d : (c : tie.After-known-told7)
-    → let s = c.before.before.before.before.before.before.before.before.before.before.before.before.before.before.before.before.before.args in
-    let d = c.before.before.before.before.before.c.given.0.0.at in
-    let e = c.before.d.given.0.0.at in
+at-d : (c : tie.In-At-prefix)
+    → let s = c.args in
+    let d = c.in-At-some_trivia.c.at in
+    let e = c.in-At-prefix.d.at in
     (word_step (prefix_bytes s.prefix) s.text.now d ≡ given e) × (d ≤ e) × (e ≤ length s.text.now)
 at-d c =
-    let r = c.before.before.before.prefix in
-    came-to c.before.d.given.1 r.ensures.0 r.ensures.1
+    let r = c.prefix in
+    came-to c.in-At-prefix.is r.ensures.0 r.ensures.1
 
-returns : tie.Need-returns
+returns : tie.Need-returns-in-Refused
 unfolding opening_c
-returns c = (simp (sym c.before.before.before.trivia.ensures.0 ∙ ap step_of c.before.r.given.1), tt)
+returns c = (simp (sym c.trivia.ensures.0 ∙ ap step_of c.in-Refused.is), tt)
 
-returns-2 : tie.Need-returns-2
+returns-2 : tie.Need-returns-in-Refused-pragma
 unfolding opening_c
-returns-2 c = (rw ((at_a c.before.before.before.before).0, sym c.before.before.before.pragma.ensures.0 ∙ ap step_of c.before.r2.given.1), tt)
+returns-2 c = (rw ((at_a c.before.before).0, sym c.pragma.ensures.0 ∙ ap step_of c.in-Refused-pragma.is), tt)
 
-returns-3 : tie.Need-returns-3
+returns-3 : tie.Need-returns-in-Refused-some_trivia
 unfolding opening_c
-returns-3 c = (rw ((at_a c.before.before.before.before.before.before.before.before).0, (at_b c.before.before.before.before).0, sym c.before.before.before.some-trivia.ensures.0 ∙ ap step_of c.before.r3.given.1), tt)
+returns-3 c = (rw ((at_a c.before.before.before.before).0, (at_b c.before.before).0, sym c.some_trivia.ensures.0 ∙ ap step_of c.in-Refused-some_trivia.is), tt)
 
-returns-4 : tie.Need-returns-4
+returns-4 : tie.Need-returns-in-Refused-prefix
 unfolding opening_c
 returns-4 c =
-    let d = c.before.before.before.before in
-    (rw ((at_a d.before.before.before.before.before.before.before.before).0, (at_b d.before.before.before.before).0, (at_c d).0, sym c.before.before.before.prefix.ensures.0 ∙ ap step_of c.before.r4.given.1), tt)
+    let d = c.before.before in
+    (rw ((at_a d.before.before.before.before.before.before.before.before).0, (at_b d.before.before.before.before).0, (at_c d).0, sym c.prefix.ensures.0 ∙ ap step_of c.in-Refused-prefix.is), tt)
 
-returns-5 : tie.Need-returns-5
+returns-5 : tie.Need-returns
 unfolding opening_c
 returns-5 c =
     let e = c.before in
     let d = e.before.before.before.before in
-    let r = c.some-trivia2 in
+    let r = c.some_trivia-2 in
     (rw ((at_a d.before.before.before.before.before.before.before.before).0, (at_b d.before.before.before.before).0, (at_c d).0, (at-d e).0) r.ensures.0, from_start _ _ r.result r.ensures.1)
 
-pub opening-c-spec : {M : Type 1} → statement M
-opening-c-spec =
+pub opening_c_spec : {M : Type 1} → statement M
+opening_c_spec =
     tie.close
     (tie.spec
     (λ c κs. search rules)

@@ -6,11 +6,11 @@ use Rattle.rulebook.proofs.Indexing.{last-is-first}
 use Rattle.rulebook.proofs.index.look_up.Statement.{statement}
 use Rattle.rulebook.proofs.index.look_up.Tie as tie
 
-pub look-up-spec : {M : Type 1} → statement M
-look-up-spec =
+pub look_up_spec : {M : Type 1} → statement M
+look_up_spec =
     tie.close
     (tie.spec
     (λ c κs. search rules)
-    (λ c κs. let s = c.before.before.before.before in (s.requires.0, (c.signature.ensures, s.requires.1.told)))
+    (λ c κs. let s = c.before.before.before.before in (s.requires.0, (c.signature-mark.ensures, s.requires.1.told)))
     (λ c. let s = c.before.before.before.before.before in
-    c.last-named.ensures ∙ last-is-first _ _ _ s.args.ignore-case s.args.name.now _ s.requires.1.single))
+    c.last_named.ensures ∙ last-is-first _ _ _ s.args.ignore_case s.args.name.now _ s.requires.1.single))

@@ -10,18 +10,18 @@ use Rattle.rulebook.proofs.Signatures.{signed-next, signed-end}
 use Rattle.rulebook.proofs.index.signature.Statement.{statement}
 use Rattle.rulebook.proofs.index.signature.Tie as tie
 
-abbrev invariant-loop : tie.invariant-loop
-invariant-loop name count sum₀ sums₀ i₀ sum sums i = (i ≤ length name) × (sum < 4096) × (sums < 4096) × (signature_from sum sums (drop i name) ≡ signature_from 0 0 name)
+abbrev invariant-loop-i : tie.invariant-loop-i
+invariant-loop-i name count sum₀ sums₀ i₀ sum sums i = (i ≤ length name) × (sum < 4096) × (sums < 4096) × (signature_from sum sums (drop i name) ≡ signature_from 0 0 name)
 
-abbrev decreases-loop : tie.decreases-loop
-decreases-loop name count sum₀ sums₀ i₀ sum sums i = count - i
+abbrev decreases-loop-i : tie.decreases-loop-i
+decreases-loop-i name count sum₀ sums₀ i₀ sum sums i = count - i
 
-pub signature-spec : {M : Type 1} → statement M
-signature-spec =
+pub signature_spec : {M : Type 1} → statement M
+signature_spec =
     tie.close
     (tie.spec
-    invariant-loop
-    decreases-loop
+    invariant-loop-i
+    decreases-loop-i
     (λ c. (omega arith, omega arith, omega arith, refl))
     (λ c. omega arith)
     (λ c. omega arith)
@@ -30,8 +30,8 @@ signature-spec =
     (λ c. omega arith)
     (λ c. omega arith)
     (λ c. omega arith)
-    (λ c. let l : tie.In-loop invariant-loop decreases-loop = c.before.before.before in
-    (omega arith, omega arith, omega arith, rw (c.wide.ensures, c.before.fold.ensures) (rw (signed-next, l.loop-test.true) at l.before.loop.invariant.3)))
+    (λ c. let l : tie.In-loop-i invariant-loop-i decreases-loop-i = c.before.before.before in
+    (omega arith, omega arith, omega arith, rw (c.wide.ensures, c.fold.ensures) (rw (signed-next, l.loop-i-test.true) at l.loop-i.invariant.3)))
     (λ c. omega arith)
     (λ c. omega arith)
-    (λ c. let l = c.before.loop in (omega arith, rw (signed-end, c.loop-test.false) at l.invariant.3)))
+    (λ c. let l = c.loop-i in (omega arith, rw (signed-end, c.loop-i-test.false) at l.invariant.3)))

@@ -7,6 +7,6 @@ use Rattle.rulebook.proofs.Forms.{form-long}
 use Rattle.rulebook.proofs.lookup.clauses_of.Statement.{statement}
 use Rattle.rulebook.proofs.lookup.clauses_of.Tie as tie
 
-pub clauses-of-spec : {M : Type 1} → statement M
+pub clauses_of_spec : {M : Type 1} → statement M
 unfolding header_of clauses_of
-clauses-of-spec = tie.close (tie.spec (λ c. omega (arith, form-long _ c.before.before.requires.0)) (λ c κs. search rules) (λ c. rw (c.wide.ensures, c.before.before.before.requires.1)))
+clauses_of_spec = tie.close (tie.spec (λ c. omega (arith, form-long _ c.requires.0)) (λ c κs. search rules) (λ c. rw (c.wide.ensures, c.requires.1)))

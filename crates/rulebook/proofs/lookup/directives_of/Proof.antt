@@ -7,6 +7,6 @@ use Rattle.rulebook.proofs.Forms.{form-long}
 use Rattle.rulebook.proofs.lookup.directives_of.Statement.{statement}
 use Rattle.rulebook.proofs.lookup.directives_of.Tie as tie
 
-pub directives-of-spec : {M : Type 1} → statement M
+pub directives_of_spec : {M : Type 1} → statement M
 unfolding header_of
-directives-of-spec = tie.close (tie.spec (λ c. omega (arith, form-long _ c.before.before.requires)) (λ c κs. search rules) (λ c. rw c.wide.ensures))
+directives_of_spec = tie.close (tie.spec (λ c. omega (arith, form-long _ c.requires)) (λ c κs. search rules) (λ c. rw c.wide.ensures))

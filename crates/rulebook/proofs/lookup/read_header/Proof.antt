@@ -7,14 +7,14 @@ use Rattle.rulebook.proofs.Forms.{form-long}
 use Rattle.rulebook.proofs.lookup.read_header.Statement.{statement}
 use Rattle.rulebook.proofs.lookup.read_header.Tie as tie
 
-pub read-header-spec : {M : Type 1} → statement M
+pub read_header_spec : {M : Type 1} → statement M
 unfolding header_of
-read-header-spec =
+read_header_spec =
     tie.close
     (tie.spec
-    (λ c. omega (arith, form-long _ c.before.before.requires.0))
-    (λ c. omega (arith, form-long _ c.before.before.before.requires.0))
+    (λ c. omega (arith, form-long _ c.requires.0))
+    (λ c. omega (arith, form-long _ c.requires.0))
     (λ c κs. search rules)
     (λ c κs. search rules)
     (λ c κs. search rules)
-    (λ c. rw (c.before.before.rule-said.ensures, c.before.directives-of.ensures, c.clauses-of.ensures)))
+    (λ c. rw (c.rule_said-rule.ensures, c.directives_of-directives.ensures, c.clauses_of-clauses.ensures)))

@@ -5,12 +5,12 @@ use borrow.Author.Rules.{rules}
 use Rattle.rulebook.proofs.lookup.rule_said.Statement.{statement}
 use Rattle.rulebook.proofs.lookup.rule_said.Tie as tie
 
-pub rule-said-spec : {M : Type 1} → statement M
-rule-said-spec =
+pub rule_said_spec : {M : Type 1} → statement M
+rule_said_spec =
     tie.close
     (tie.spec
     (λ c κs. search rules)
     (λ c. search rules)
     (λ c. search rules)
-    (λ c. rw (sym c.before.before.before.rule-for.ensures ∙ c.before.rule.given.1))
-    (λ c. rw (sym c.before.before.rule-for.ensures ∙ c.enum_told.given.1)))
+    (λ c. rw (sym c.rule_for.ensures ∙ c.in-Known.is))
+    (λ c. rw (sym c.rule_for.ensures ∙ c.in-Unknown.is)))

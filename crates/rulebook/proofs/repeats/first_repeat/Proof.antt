@@ -39,64 +39,64 @@ begin : (bs : List ℕ) (es : Entries) (p : ℕ) → es ≡ (header_of bs).direc
 unfolding header_of clauses_of
 begin bs es p e q = rw e at q
 
-repeat-among-requires : tie.Need-repeat-among-requires
+repeat-among-requires : tie.Need-repeat_among-first-requires
 repeat-among-requires c κs =
     let s = c.before.before.before.before in
-    of-directives _ _ s.requires.0 s.requires.1 _ c.before.directives-of.ensures (omega (arith, c.before.before.before.shared-slice-known.given 7))
+    of-directives _ _ s.requires.0 s.requires.1 _ c.directives_of-directives.ensures (omega (arith, c.shared_slice_known-1.given 7))
 
-clauses-of-requires : tie.Need-clauses-of-requires
+clauses-of-requires : tie.Need-clauses_of-clauses-requires
 clauses-of-requires c κs =
-    let m : tie.After-repeat-among = c.before.before.before.before in
-    let d : tie.After-directives-of = m.before.before in
-    (d.before.before.before.requires.0, begin _ _ _ d.directives-of.ensures (m.repeat-among.ensures.1.1.1 (ap found_at c.enum_told.given.1)))
+    let m : tie.After-repeat_among-first = c.before.before.before in
+    let d : tie.After-directives_of-directives = m.before.before in
+    (d.requires.0, begin _ _ _ d.directives_of-directives.ensures (m.repeat_among-first.ensures.1.1.1 (ap found_at c.in-Nothing.is)))
 
-repeat-among-requires-2 : tie.Need-repeat-among-requires-2
+repeat-among-requires-2 : tie.Need-repeat_among-second-requires
 repeat-among-requires-2 c κs =
-    let m : tie.After-repeat-among = c.before.before.before.before.before.before in
-    let d : tie.After-directives-of = m.before.before in
+    let m : tie.After-repeat_among-first = c.before.before.before.before.before in
+    let d : tie.After-directives_of-directives = m.before.before in
     let s = d.before.before.before in
-    of-clauses _ _ s.requires.0 s.requires.1 _ _ _ c.before.clauses-of.ensures d.directives-of.ensures m.repeat-among.ensures.1.0 (omega (arith, d.before.before.shared-slice-known.given 8))
+    of-clauses _ _ s.requires.0 s.requires.1 _ _ _ c.clauses_of-clauses.ensures d.directives_of-directives.ensures m.repeat_among-first.ensures.1.0 (omega (arith, d.shared_slice_known-1.given 8))
 
 -- what the first search says of the book
-directives : (m : tie.After-repeat-among) → repeat_from [] (book_of m.before.before.before.before.before.args.book.now).directives ≡ found_at m.repeat-among.result.found
+directives : (m : tie.After-repeat_among-first) → repeat_from [] (book_of m.args.book.now).directives ≡ found_at m.repeat_among-first.result.found
 directives m =
-    let d : tie.After-directives-of = m.before.before in
-    rw (book-directives _ (header_of _) refl) (rw d.directives-of.ensures at (sym m.repeat-among.ensures.0))
+    let d : tie.After-directives_of-directives = m.before.before in
+    rw (book-directives _ (header_of _) refl) (rw d.directives_of-directives.ensures at (sym m.repeat_among-first.ensures.0))
 
-same_length : tie.Need-same-length
+same_length : tie.Need-shape_of-index-in-At
 same_length c =
-    let m : tie.After-repeat-among = c.before.before.before.before.before in
-    m.repeat-among.ensures.1.0.long ∙ sym m.before.before.before.before.before.requires.1.long
+    let m : tie.After-repeat_among-first = c.before.before.before in
+    m.repeat_among-first.ensures.1.0.long ∙ sym m.requires.1.long
 
-returns : tie.Need-returns
+returns : tie.Need-returns-in-At
 returns c =
-    let m : tie.After-repeat-among = c.before.before.before.before.before in
-    let d = directives m ∙ ap found_at c.before.found.given.1 in
-    (rw d, (faulty _ _ _ (fault-first _ _ m.before.before.before.before.before.requires.0 d), λ z. absurd (some-none z)))
+    let m : tie.After-repeat_among-first = c.before.before.before in
+    let d = directives m ∙ ap found_at c.in-At.is in
+    (rw d, (faulty _ _ _ (fault-first _ _ m.requires.0 d), λ z. absurd (some-none z)))
 
-same-length-2 : tie.Need-same-length-2
+same-length-2 : tie.Need-shape_of-index-in-Nothing
 same-length-2 c =
-    let m : tie.After-repeat-among = c.before.before.before.before.before.before.before.before.before in
-    c.before.before.repeat-among2.ensures.1.0.long ∙ sym m.before.before.before.before.before.requires.1.long
+    let m : tie.After-repeat_among-first = c.before.before.before.before.before.before.before.before in
+    c.repeat_among-second.ensures.1.0.long ∙ sym m.requires.1.long
 
-returns-2 : tie.Need-returns-2
+returns-2 : tie.Need-returns-in-Nothing
 returns-2 c =
-    let n : tie.After-repeat-among2 = c.before.before in
-    let k : tie.After-clauses-of = n.before.before in
-    let m : tie.After-repeat-among = k.before.before.before.before.before in
-    let d : tie.After-directives-of = m.before.before in
+    let n : tie.After-repeat_among-second = c.before.before in
+    let k : tie.After-clauses_of-clauses = n.before.before in
+    let m : tie.After-repeat_among-first = k.before.before.before.before in
+    let d : tie.After-directives_of-directives = m.before.before in
     let s = d.before.before.before in
-    let e = d.directives-of.ensures in
-    let g = k.clauses-of.ensures in
-    let t = ap found_at k.before.enum_told.given.1 in
-    let r = rw g at n.repeat-among2.ensures in
-    let q = rw e at m.repeat-among.ensures in (
+    let e = d.directives_of-directives.ensures in
+    let g = k.clauses_of-clauses.ensures in
+    let t = ap found_at k.in-Nothing.is in
+    let r = rw g at n.repeat_among-second.ensures in
+    let q = rw e at m.repeat_among-first.ensures in (
       rw (directives m ∙ t, book-clauses _ (header_of _) refl) r.0,
-      (whole _ (header_of _) refl _ _ (sym q.0 ∙ t) (q.1.1.0 t) r.1.0 (λ z. r.1.1.0 (r.0 ∙ z)) s.requires.0, λ z. begin _ _ _ e (m.repeat-among.ensures.1.1.1 t)),
+      (whole _ (header_of _) refl _ _ (sym q.0 ∙ t) (q.1.1.0 t) r.1.0 (λ z. r.1.1.0 (r.0 ∙ z)) s.requires.0, λ z. begin _ _ _ e (m.repeat_among-first.ensures.1.1.1 t)),
     )
 
-pub first-repeat-spec : {M : Type 1} → statement M
-first-repeat-spec =
+pub first_repeat_spec : {M : Type 1} → statement M
+first_repeat_spec =
     tie.close
     (tie.spec
     (λ c κs. search rules)

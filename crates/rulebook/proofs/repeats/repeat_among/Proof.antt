@@ -16,8 +16,8 @@ use Rattle.rulebook.proofs.Indexing.{some-none, chains-none, chains-next, elsewh
 use Rattle.rulebook.proofs.repeats.repeat_among.Statement.{statement}
 use Rattle.rulebook.proofs.repeats.repeat_among.Tie as tie
 
-abbrev invariant-loop : tie.invariant-loop
-invariant-loop book index₀ lead first count heads links at₀ done₀ index at done =
+abbrev invariant-loop-done : tie.invariant-loop-done
+invariant-loop-done book index₀ lead first count heads links at₀ done₀ index at done =
     (done ≤ count)
     × Laid lead count first book
     × Laid lead (count - done) at book
@@ -30,31 +30,31 @@ invariant-loop book index₀ lead first count heads links at₀ done₀ index at
     × Elsewhere lead index₀ index
     × Chains lead first book index done
 
-abbrev decreases-loop : tie.decreases-loop
-decreases-loop book index₀ lead first count heads links at₀ done₀ index at done = count - done
+abbrev decreases-loop-done : tie.decreases-loop-done
+decreases-loop-done book index₀ lead first count heads links at₀ done₀ index at done = count - done
 
 -- the name at the loop's place lies inside the book, and so do the entries after it
-next : (c : tie.After-name-at invariant-loop decreases-loop) →
-    let a = c.before.before.before.before.before.args in
-    let l = c.before.before.loop in
-    let r = c.name-at.result in
+next : (c : tie.After-name_at-range invariant-loop-done decreases-loop-done) →
+    let a = c.args in
+    let l = c.loop-done in
+    let r = c.name_at-range.result in
     (r.start < r.end) × (r.end ≤ length a.book.now) × Laid a.entries.lead (a.entries.count - (l.done + 1)) r.end a.book.now
 next c =
-    let l = c.before.before.loop in
-    laid_next _ _ _ _ l.at _ (omega arith) c.name-at.ensures l.invariant.2
+    let l = c.loop-done in
+    laid_next _ _ _ _ l.at _ (omega arith) c.name_at-range.ensures l.invariant.2
 
 -- a name is a byte long at most
-near : (c : tie.After-name-at invariant-loop decreases-loop) → (c.before.before.loop.at ≤ c.name-at.result.end) × (c.name-at.result.end ≤ c.before.before.loop.at + 257)
+near : (c : tie.After-name_at-range invariant-loop-done decreases-loop-done) → (c.loop-done.at ≤ c.name_at-range.result.end) × (c.name_at-range.result.end ≤ c.loop-done.at + 257)
 near c =
-    let l = c.before.before.loop in
-    let k = c.before.before.before.before.shared-slice-known.given (l.at + c.before.before.before.before.before.args.entries.lead) in
-    rw c.name-at.ensures (omega arith, omega (arith, k, l.invariant.7))
+    let l = c.loop-done in
+    let k = c.shared_slice_known-1.given (l.at + c.args.entries.lead) in
+    rw c.name_at-range.ensures (omega arith, omega (arith, k, l.invariant.7))
 
-loop-holds : tie.Need-loop-init invariant-loop decreases-loop
+loop-holds : tie.Need-loop-done-init invariant-loop-done decreases-loop-done
 unfolding entries_from place_after
 loop-holds c =
-    let p = c.before.before.requires in
-    let n = c.before.before.args.entries.count in
+    let p = c.requires in
+    let n = c.args.entries.count in
     let q : n - 0 ≡ n = omega arith in (
       omega arith,
       p.0,
@@ -70,55 +70,55 @@ loop-holds c =
     )
 
 -- the index of those that are done
-told : (l : tie.At-loop invariant-loop decreases-loop) → Indexed l.before.before.before.args.entries.lead l.before.before.before.args.entries.first l.loop.done l.before.before.before.args.book.now l.loop.index
-told l = record { long = l.loop.invariant.9.long; low = l.loop.invariant.7; few = omega (arith, l.loop.invariant.0, l.loop.invariant.8); chained = l.loop.invariant.10 }
+told : (l : tie.At-loop-done invariant-loop-done decreases-loop-done) → Indexed l.args.entries.lead l.args.entries.first l.loop-done.done l.args.book.now l.loop-done.index
+told l = record { long = l.loop-done.invariant.9.long; low = l.loop-done.invariant.7; few = omega (arith, l.loop-done.invariant.0, l.loop-done.invariant.8); chained = l.loop-done.invariant.10 }
 
-is-repeat-requires : tie.Need-is-repeat-requires invariant-loop decreases-loop
+is-repeat-requires : tie.Need-is_repeat-requires invariant-loop-done decreases-loop-done
 is-repeat-requires c κs =
-    let l = c.before.before.before.before.before.before.loop in
-    (laid-fewer _ _ l.done _ _ l.invariant.0 l.invariant.1, (c.before.before.signature.ensures, told c.before.before.before.before.before.before))
+    let l = c.loop-done in
+    (laid-fewer _ _ l.done _ _ l.invariant.0 l.invariant.1, (c.signature-mark.ensures, told c.before.before.before.before.before.before))
 
-returns : tie.Need-returns invariant-loop decreases-loop
+returns : tie.Need-returns-then-is_repeat invariant-loop-done decreases-loop-done
 returns c =
-    let m : tie.After-name-at invariant-loop decreases-loop = c.before.before.before.before.before.before in
-    let l = m.before.before.loop in
-    let n = m.before.before.before.before.before.args.entries.count in
-    let h = sym c.before.is-repeat.ensures ∙ c.if1.true in
-    (sym (repeat-here _ _ (n - l.done) (n - (l.done + 1)) l.at _ (omega arith) m.name-at.ensures _ h) ∙ l.invariant.4, (l.invariant.9, (λ z. absurd (some-none z), λ z. absurd (some-none z))))
+    let m : tie.After-name_at-range invariant-loop-done decreases-loop-done = c.before.before.before.before.before.before in
+    let l = m.loop-done in
+    let n = m.args.entries.count in
+    let h = sym c.is_repeat.ensures ∙ c.if-is_repeat.true in
+    (sym (repeat-here _ _ (n - l.done) (n - (l.done + 1)) l.at _ (omega arith) m.name_at-range.ensures _ h) ∙ l.invariant.4, (l.invariant.9, (λ z. absurd (some-none z), λ z. absurd (some-none z))))
 
-loop-again : tie.Need-loop-preserved invariant-loop decreases-loop
+loop-again : tie.Need-loop-done-preserved invariant-loop-done decreases-loop-done
 loop-again c =
-    let s : tie.After-signature invariant-loop decreases-loop = c.before.before.before.before.before in
-    let m : tie.After-name-at invariant-loop decreases-loop = s.before.before in
-    let l = m.before.before.loop in
-    let a = m.before.before.before.before.before.args in
+    let s : tie.After-signature-mark invariant-loop-done decreases-loop-done = c.before.before.before.before.before in
+    let m : tie.After-name_at-range invariant-loop-done decreases-loop-done = s.before.before in
+    let l = m.loop-done in
+    let a = m.args in
     let n = a.entries.count in
-    let h = sym c.before.before.is-repeat.ensures ∙ c.before.if1.false in
-    let q : s.signature.result ≡ signature (name_of a.entries.lead a.entries.first a.book.now l.done) = rw (m.name-at.ensures, l.invariant.3) at s.signature.ensures.1 in
+    let h = sym c.is_repeat.ensures ∙ c.if-is_repeat.false in
+    let q : s.signature-mark.result ≡ signature (name_of a.entries.lead a.entries.first a.book.now l.done) = rw (m.name_at-range.ensures, l.invariant.3) at s.signature-mark.ensures.1 in
     let few : l.done < 255 = omega (arith, l.invariant.8) in (
       omega arith,
       l.invariant.1,
       (next m).2,
-      rw (place-snoc a.entries.lead a.book.now l.done a.entries.first, ← l.invariant.3, m.name-at.ensures),
-      sym (repeat-later _ _ (n - l.done) (n - (l.done + 1)) l.at _ (omega arith) m.name-at.ensures l.done a.entries.first l.invariant.3 h) ∙ l.invariant.4,
+      rw (place-snoc a.entries.lead a.book.now l.done a.entries.first, ← l.invariant.3, m.name_at-range.ensures),
+      sym (repeat-later _ _ (n - l.done) (n - (l.done + 1)) l.at _ (omega arith) m.name_at-range.ensures l.done a.entries.first l.invariant.3 h) ∙ l.invariant.4,
       omega (arith, near m),
       omega (arith, near m),
       l.invariant.7,
       l.invariant.8,
-      rw l.invariant.3 (elsewhere-next _ _ _ _ l.done _ l.invariant.7 few l.invariant.9.long s.signature.ensures.0 q l.invariant.10 _ l.invariant.9),
-      rw l.invariant.3 (chains-next _ _ _ _ l.done _ l.invariant.7 few l.invariant.9.long s.signature.ensures.0 q l.invariant.10),
+      rw l.invariant.3 (elsewhere-next _ _ _ _ l.done _ l.invariant.7 few l.invariant.9.long s.signature-mark.ensures.0 q l.invariant.10 _ l.invariant.9),
+      rw l.invariant.3 (chains-next _ _ _ _ l.done _ l.invariant.7 few l.invariant.9.long s.signature-mark.ensures.0 q l.invariant.10),
     )
 
-pub repeat-among-spec : {M : Type 1} → statement M
-repeat-among-spec =
+pub repeat_among_spec : {M : Type 1} → statement M
+repeat_among_spec =
     tie.close
     (tie.spec
-    invariant-loop
-    decreases-loop
-    (λ c. omega (arith, c.before.before.requires.1.0))
-    (λ c. omega (arith, c.before.before.requires.1.0))
+    invariant-loop-done
+    decreases-loop-done
+    (λ c. omega (arith, c.requires.1.0))
+    (λ c. omega (arith, c.requires.1.0))
     loop-holds
-    (λ c κs. let l = c.before.loop in laid-name _ _ _ l.at (omega arith) l.invariant.2)
+    (λ c κs. let l = c.loop-done in laid-name _ _ _ l.at (omega arith) l.invariant.2)
     (λ c. omega (arith, next c))
     (λ c. omega (arith, next c))
     (λ c. (next c).1)
@@ -127,28 +127,28 @@ repeat-among-spec =
     (λ c. omega (arith, next c.before.before.before))
     (λ c. (next c.before.before.before).1)
     is-repeat-requires
-    (λ c. c.before.before.before.before.before.before.before.before.loop.invariant.9.long ∙ sym c.before.before.before.before.before.before.before.before.before.before.before.requires.1.1.long)
+    (λ c. c.loop-done.invariant.9.long ∙ sym c.requires.1.1.long)
     returns
-    (λ c. omega (arith, c.before.before.before.before.before.before.before.before.loop.invariant.7, c.before.before.before.before.signature.ensures.0))
-    (λ c. omega (arith, c.before.before.before.before.before.before.before.before.loop.invariant.7, c.before.before.before.before.signature.ensures.0))
-    (λ c. omega (arith, c.before.before.before.before.before.before.before.before.before.loop.invariant.7, c.before.before.before.before.before.before.before.before.before.loop.invariant.9.long, c.before.before.before.before.before.signature.ensures.0))
-    (λ c. omega (arith, c.before.before.before.before.before.before.before.before.before.loop.invariant.7, c.before.before.before.before.before.before.before.before.before.loop.invariant.8))
-    (λ c. omega (arith, c.before.before.before.before.before.before.before.before.before.loop.invariant.7, c.before.before.before.before.before.before.before.before.before.loop.invariant.8))
-    (λ c. omega (arith, c.before.before.before.before.before.before.before.before.before.loop.invariant.7, c.before.before.before.before.before.before.before.before.before.loop.invariant.8, c.before.before.before.before.before.before.before.before.before.loop.invariant.9.long))
-    (λ c. omega (arith, c.before.before.before.before.before.before.before.before.before.loop.invariant.5))
-    (λ c. omega (arith, c.before.before.before.before.before.before.before.before.before.loop.invariant.6, c.before.before.before.before.before.before.before.before.before.loop.invariant.8))
-    (λ c. omega (arith, c.before.before.before.before.before.before.before.before.before.loop.invariant.6, c.before.before.before.before.before.before.before.before.before.loop.invariant.8))
-    (λ c. omega (arith, c.before.before.before.before.before.before.before.before.before.loop.invariant.6, c.before.before.before.before.before.before.before.before.before.loop.invariant.8))
-    (λ c. omega (arith, c.before.before.before.before.before.before.before.before.before.loop.invariant.6, c.before.before.before.before.before.before.before.before.before.loop.invariant.8))
-    (λ c. omega (arith, c.before.before.before.before.before.before.before.before.before.loop.invariant.7, c.before.before.before.before.before.signature.ensures.0))
-    (λ c. omega (arith, c.before.before.before.before.before.before.before.before.before.loop.invariant.7, c.before.before.before.before.before.signature.ensures.0))
-    (λ c. rw length-set (omega (arith, c.before.before.before.before.before.before.before.before.before.loop.invariant.7, c.before.before.before.before.before.before.before.before.before.loop.invariant.9.long, c.before.before.before.before.before.signature.ensures.0)))
+    (λ c. omega (arith, c.loop-done.invariant.7, c.signature-mark.ensures.0))
+    (λ c. omega (arith, c.loop-done.invariant.7, c.signature-mark.ensures.0))
+    (λ c. omega (arith, c.loop-done.invariant.7, c.loop-done.invariant.9.long, c.signature-mark.ensures.0))
+    (λ c. omega (arith, c.loop-done.invariant.7, c.loop-done.invariant.8))
+    (λ c. omega (arith, c.loop-done.invariant.7, c.loop-done.invariant.8))
+    (λ c. omega (arith, c.loop-done.invariant.7, c.loop-done.invariant.8, c.loop-done.invariant.9.long))
+    (λ c. omega (arith, c.loop-done.invariant.5))
+    (λ c. omega (arith, c.loop-done.invariant.6, c.loop-done.invariant.8))
+    (λ c. omega (arith, c.loop-done.invariant.6, c.loop-done.invariant.8))
+    (λ c. omega (arith, c.loop-done.invariant.6, c.loop-done.invariant.8))
+    (λ c. omega (arith, c.loop-done.invariant.6, c.loop-done.invariant.8))
+    (λ c. omega (arith, c.loop-done.invariant.7, c.signature-mark.ensures.0))
+    (λ c. omega (arith, c.loop-done.invariant.7, c.signature-mark.ensures.0))
+    (λ c. rw length-set (omega (arith, c.loop-done.invariant.7, c.loop-done.invariant.9.long, c.signature-mark.ensures.0)))
     (λ c. omega arith)
     (λ c. omega arith)
     loop-again
-    (λ c. c.before.loop.invariant.9.long ∙ sym c.before.before.before.before.requires.1.1.long)
-    (λ c. let l = c.before.loop in
-    let n = c.before.before.before.before.args.entries.count in
+    (λ c. c.loop-done.invariant.9.long ∙ sym c.requires.1.1.long)
+    (λ c. let l = c.loop-done in
+    let n = c.args.entries.count in
     let e : n - l.done ≡ 0 = omega arith in
     let d : l.done ≡ n = omega arith in
     (rw (repeat-none, e) at l.invariant.4, (l.invariant.9, (λ _. rw d at (told c.before), λ _. rw d at l.invariant.3)))))

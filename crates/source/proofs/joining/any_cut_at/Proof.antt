@@ -7,11 +7,11 @@ use Rattle.lexer.proofs.Continuing.{one-break}
 use Rattle.source.proofs.joining.any_cut_at.Statement.{statement}
 use Rattle.source.proofs.joining.any_cut_at.Tie as tie
 
-returns : tie.Need-returns
+returns : tie.Need-returns-then-gone-gt0
 returns c =
-    let a = c.before.before.before.args in
-    (omega (arith, one-break (drop a.at a.text.now) (omega arith)), c.before.break-c.ensures.1)
+    let a = c.args in
+    (omega (arith, one-break (drop a.at a.text.now) (omega arith)), c.break_c-gone.ensures.1)
 
-pub any-cut-at-spec : {M : Type 1} → statement M
-any-cut-at-spec =
+pub any_cut_at_spec : {M : Type 1} → statement M
+any_cut_at_spec =
     tie.close (tie.spec (λ c κs. search rules) returns (λ c κs. search rules) (λ c. search rules))

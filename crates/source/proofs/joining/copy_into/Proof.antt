@@ -13,48 +13,48 @@ use Rattle.source.proofs.Staying.{stays-first}
 use Rattle.source.proofs.joining.copy_into.Statement.{statement}
 use Rattle.source.proofs.joining.copy_into.Tie as tie
 
-abbrev invariant-loop : tie.invariant-loop
-invariant-loop content copy₀ i₀ k₀ copy i k =
+abbrev invariant-loop-i : tie.invariant-loop-i
+invariant-loop-i content copy₀ i₀ k₀ copy i k =
     (k ≤ i)
     × (i ≤ length content)
     × (length copy ≡ length copy₀)
     × (take k copy ++ staying content i ≡ staying content 0)
 
-abbrev decreases-loop : tie.decreases-loop
-decreases-loop content copy₀ i₀ k₀ copy i k = length content - i
+abbrev decreases-loop-i : tie.decreases-loop-i
+decreases-loop-i content copy₀ i₀ k₀ copy i k = length content - i
 
-loop-again : tie.Need-loop-preserved invariant-loop decreases-loop
+loop-again : tie.Need-loop-i-preserved-then-gone-eq0 invariant-loop-i decreases-loop-i
 loop-again c =
-    let l = c.before.before.before.before.before.before.before.before.loop in
-    let t = c.before.before.before.before.before.before.before.before.before.before.before.args.content.now in
-    let p = c.before.before.copy-part in
-    let none = sym c.before.before.before.before.before.if1.true ∙ c.before.before.before.before.before.before.any-cut-at.ensures.0 in
-    let s : Stays t l.i c.before.before.before.before.plain-end.result = stays-first t l.i _ c.before.before.before.before.before.before.before.loop-test.true none c.before.before.before.before.plain-end.ensures in
+    let l = c.loop-i in
+    let t = c.args.content.now in
+    let p = c.copy_part-k in
+    let none = sym c.if-gone-eq0.true ∙ c.any_cut_at-gone.ensures.0 in
+    let s : Stays t l.i c.plain_end-end.result = stays-first t l.i _ c.loop-i-test.true none c.plain_end-end.ensures in
     (omega (arith, s.ordered, p.ensures.0), s.within, p.auto.1.1.1.0 ∙ l.invariant.2, rw (p.ensures.1, append_assoc, ← s.kept) l.invariant.3)
 
-returns : tie.Need-returns invariant-loop decreases-loop
+returns : tie.Need-returns invariant-loop-i decreases-loop-i
 unfolding collapsed
 returns c =
-    let copy = rw (kept-end any_cut, c.loop-test.false, append-nil) at c.before.loop.invariant.3 in
-    let a : c.before.loop.k ≤ length c.before.loop.copy = omega arith in
+    let copy = rw (kept-end any_cut, c.loop-i-test.false, append-nil) at c.loop-i.invariant.3 in
+    let a : c.loop-i.k ≤ length c.loop-i.copy = omega arith in
     (omega arith, (rw (← copy, length-take-le), copy))
 
-pub copy-into-spec : {M : Type 1} → statement M
-copy-into-spec =
+pub copy_into_spec : {M : Type 1} → statement M
+copy_into_spec =
     tie.close
     (tie.spec
-    invariant-loop
-    decreases-loop
+    invariant-loop-i
+    decreases-loop-i
     (λ c. (omega arith, omega arith, refl, refl))
     (λ c κs. omega arith)
     (λ c. omega arith)
     (λ c κs. omega arith)
-    (λ c κs. let s = c.before.plain-end.ensures in (omega (arith, s.ordered), (s.within, omega (arith, s.ordered, s.within))))
-    (λ c. let s = c.before.before.before.before.plain-end.ensures in omega (arith, s.ordered, s.within))
+    (λ c κs. let s = c.plain_end-end.ensures in (omega (arith, s.ordered), (s.within, omega (arith, s.ordered, s.within))))
+    (λ c. let s = c.plain_end-end.ensures in omega (arith, s.ordered, s.within))
     loop-again
     (λ c. omega arith)
     (λ c. omega arith)
-    (λ c. let l : tie.In-loop invariant-loop decreases-loop = c.before.before in
-    (omega arith, omega arith, omega arith, rw (← kept-jump any_cut, l.loop-test.true, c.before.any-cut-at.ensures.0, c.if1.false) l.before.loop.invariant.3))
+    (λ c. let l : tie.In-loop-i invariant-loop-i decreases-loop-i = c.before.before in
+    (omega arith, omega arith, omega arith, rw (← kept-jump any_cut, l.loop-i-test.true, c.any_cut_at-gone.ensures.0, c.if-gone-eq0.false) l.loop-i.invariant.3))
     (λ c. omega arith)
     returns)

@@ -14,8 +14,8 @@ use Rattle.source.proofs.Kept.{kept_next, kept-jump, kept-end}
 use Rattle.source.proofs.joining.join_into.Statement.{statement}
 use Rattle.source.proofs.joining.join_into.Tie as tie
 
-abbrev invariant-loop : tie.invariant-loop
-invariant-loop language line text₀ map₀ i₀ k₀ text places i k =
+abbrev invariant-loop-i : tie.invariant-loop-i
+invariant-loop-i language line text₀ map₀ i₀ k₀ text places i k =
     (k ≤ i)
     × (i ≤ length line)
     × (length text ≡ length text₀)
@@ -23,52 +23,52 @@ invariant-loop language line text₀ map₀ i₀ k₀ text places i k =
     × (take k text ++ map byte_of (kept_from (cut_of language) 0 i (drop i line)) ≡ map byte_of (kept_from (cut_of language) 0 0 line))
     × (take k places ++ map place_of (kept_from (cut_of language) 0 i (drop i line)) ≡ map place_of (kept_from (cut_of language) 0 0 line))
 
-abbrev decreases-loop : tie.decreases-loop
-decreases-loop language line text₀ map₀ i₀ k₀ text places i k = length line - i
+abbrev decreases-loop-i : tie.decreases-loop-i
+decreases-loop-i language line text₀ map₀ i₀ k₀ text places i k = length line - i
 
-loop-again : tie.Need-loop-preserved invariant-loop decreases-loop
+loop-again : tie.Need-loop-i-preserved-then-stays invariant-loop-i decreases-loop-i
 loop-again c =
-    let l : tie.In-loop invariant-loop decreases-loop = c.before.before.before in
-    let gone = c.before.before.cut_at in
-    let none = sym (eqb-true gone.result 0 c.before.if1.true) ∙ gone.ensures.0 in
-    let a : l.before.loop.k < length l.before.loop.text = omega arith in
-    let b : l.before.loop.k < length l.before.loop.map = omega arith in (
+    let l : tie.In-loop-i invariant-loop-i decreases-loop-i = c.before.before.before in
+    let gone = c.cut_at-gone in
+    let none = sym (eqb-true gone.result 0 c.if-stays.true-raw) ∙ gone.ensures.0 in
+    let a : l.loop-i.k < length l.loop-i.text = omega arith in
+    let b : l.loop-i.k < length l.loop-i.map = omega arith in (
       omega arith,
       omega arith,
       simp length-set (omega arith),
       simp length-set (omega arith),
-      rw pushed (rw (kept_next, l.loop-test.true, none) at l.before.loop.invariant.4),
-      rw pushed (rw (kept_next, l.loop-test.true, none) at l.before.loop.invariant.5),
+      rw pushed (rw (kept_next, l.loop-i-test.true, none) at l.loop-i.invariant.4),
+      rw pushed (rw (kept_next, l.loop-i-test.true, none) at l.loop-i.invariant.5),
     )
 
-loop-again-2 : tie.Need-loop-preserved-2 invariant-loop decreases-loop
+loop-again-2 : tie.Need-loop-i-preserved invariant-loop-i decreases-loop-i
 loop-again-2 c =
-    let l : tie.In-loop invariant-loop decreases-loop = c.before.before in
-    let gone = c.before.cut_at in
-    let some = eqb-false gone.result 0 c.if1.false in (
+    let l : tie.In-loop-i invariant-loop-i decreases-loop-i = c.before.before in
+    let gone = c.cut_at-gone in
+    let some = eqb-false gone.result 0 c.if-stays.false-raw in (
       omega arith,
       omega arith,
       omega arith,
       omega arith,
-      rw (← kept-jump, l.loop-test.true, gone.ensures.0, some) l.before.loop.invariant.4,
-      rw (← kept-jump, l.loop-test.true, gone.ensures.0, some) l.before.loop.invariant.5,
+      rw (← kept-jump, l.loop-i-test.true, gone.ensures.0, some) l.loop-i.invariant.4,
+      rw (← kept-jump, l.loop-i-test.true, gone.ensures.0, some) l.loop-i.invariant.5,
     )
 
-returns : tie.Need-returns invariant-loop decreases-loop
+returns : tie.Need-returns invariant-loop-i decreases-loop-i
 unfolding joined_text joined_map
 returns c =
-    let text = rw (kept-end, c.loop-test.false, append-nil) at c.before.loop.invariant.4 in
-    let map = rw (kept-end, c.loop-test.false, append-nil) at c.before.loop.invariant.5 in
-    let a : c.before.loop.k ≤ length c.before.loop.text = omega arith in
-    let b : c.before.loop.k < length c.before.loop.map = omega arith in
+    let text = rw (kept-end, c.loop-i-test.false, append-nil) at c.loop-i.invariant.4 in
+    let map = rw (kept-end, c.loop-i-test.false, append-nil) at c.loop-i.invariant.5 in
+    let a : c.loop-i.k ≤ length c.loop-i.text = omega arith in
+    let b : c.loop-i.k < length c.loop-i.map = omega arith in
     (omega arith, (rw (← text, length-take-le), (text, rw (add-one, take-suc-set, map))))
 
-pub join-into-spec : {M : Type 1} → statement M
-join-into-spec =
+pub join_into_spec : {M : Type 1} → statement M
+join_into_spec =
     tie.close
     (tie.spec
-    invariant-loop
-    decreases-loop
+    invariant-loop-i
+    decreases-loop-i
     (λ c. (omega arith, omega arith, refl, refl, refl, refl))
     (λ c κs. omega arith)
     (λ c. omega arith)
@@ -81,7 +81,7 @@ join-into-spec =
     (λ c. omega arith)
     loop-again
     (λ c. omega arith)
-    (λ c. omega (arith, eqb-false c.before.cut_at.result 0 c.if1.false))
+    (λ c. omega (arith, eqb-false c.cut_at-gone.result 0 c.if-stays.false-raw))
     loop-again-2
     (λ c. omega arith)
     (λ c. omega arith)

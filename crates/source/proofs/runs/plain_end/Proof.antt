@@ -9,28 +9,28 @@ use Rattle.source.proofs.Staying.{stays-more}
 use Rattle.source.proofs.runs.plain_end.Statement.{statement}
 use Rattle.source.proofs.runs.plain_end.Tie as tie
 
-abbrev invariant-loop : tie.invariant-loop
-invariant-loop content from i₀ i = Stays content from i
+abbrev invariant-loop-i : tie.invariant-loop-i
+invariant-loop-i content from i₀ i = Stays content from i
 
-abbrev decreases-loop : tie.decreases-loop
-decreases-loop content from i₀ i = length content - i
+abbrev decreases-loop-i : tie.decreases-loop-i
+decreases-loop-i content from i₀ i = length content - i
 
-loop-again : tie.Need-loop-preserved invariant-loop decreases-loop
+loop-again : tie.Need-loop-i-preserved invariant-loop-i decreases-loop-i
 loop-again c =
-    let l = c.before.before.before.loop in
-    stays-more _ _ l.i l.invariant c.before.before.loop-test.true c.if1.true
+    let l = c.loop-i in
+    stays-more _ _ l.i l.invariant c.loop-i-test.true c.if-plain.true
 
-pub plain-end-spec : {M : Type 1} → statement M
-plain-end-spec =
+pub plain_end_spec : {M : Type 1} → statement M
+plain_end_spec =
     tie.close
     (tie.spec
-    invariant-loop
-    decreases-loop
+    invariant-loop-i
+    decreases-loop-i
     (λ c κs. search rules)
-    (λ c. c.plain-eights.ensures)
+    (λ c. c.plain_eights-i.ensures)
     (λ c. omega arith)
     (λ c. omega arith)
     (λ c. omega arith)
     loop-again
-    (λ c. c.before.before.before.loop.invariant)
-    (λ c. c.before.loop.invariant))
+    (λ c. c.loop-i.invariant)
+    (λ c. c.loop-i.invariant))
