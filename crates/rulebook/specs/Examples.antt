@@ -47,7 +47,7 @@ pub faults :
     ∷ book 0 0 1 1 (directive (bytes "a") ++ clause 4 (bytes "b"))
     ∷ book 0 0 1 1 (directive (bytes "a") ++ clause 3 (bytes "b c"))
     ∷ book 0 0 2 0 (directive (bytes "a") ++ directive (bytes "A"))
-    ∷ book 0 0 1 2 (directive (bytes "a") ++ clause 0 (bytes "bc") ++ clause 1 (bytes "b_c"))
+    ∷ book 0 0 1 2 (directive (bytes "a") ++ clause 0 (bytes "bc") ++ clause 1 (bytes "bC"))
     ∷ book 0 0 2 1 (directive (bytes "a b") ++ directive (bytes "ab") ++ clause 0 (bytes "ab"))
     ∷ book 0 0 2 0 (directive (bytes "a") ++ directive (bytes "a") ++ (0 ∷ []))
     ∷ book 0 0 2 1 (directive (bytes "a") ++ directive (bytes "a") ++ (0 ∷ []))

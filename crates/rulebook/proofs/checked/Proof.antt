@@ -31,8 +31,8 @@ returns c =
 returns-2 : tie.Need-returns-in-At-found
 returns-2 c =
     let r : tie.After-first_repeat-repeats = c.before.before.before.before.before in
-    let p = c.found-1.given in
-    let e : book_fault r.args.book.now ≡ some p.0.0 = fault-repeat _ (form r.before.before) ∙ sym r.first_repeat-repeats.ensures.0 ∙ ap found_at p.1 in
+    let p = c.in-At-found in
+    let e : book_fault r.args.book.now ≡ some p.place = fault-repeat _ (form r.before.before) ∙ sym r.first_repeat-repeats.ensures.0 ∙ ap found_at p.is in
     (record { judged = c.refused-in-At-found.ensures ∙ call-refused _ _ e; known = λ h. absurd (some-none (sym e ∙ h)) }, r.first_repeat-repeats.ensures.1.0)
 
 returns-3 : tie.Need-returns-in-Nothing-found

@@ -38,8 +38,8 @@ returns-2 c = (rw ((at_a c.before.before).0, sym c.trivia.ensures.0 ∙ ap step_
 
 returns-3 : tie.Need-returns
 returns-3 c =
-    let b = c.before.before in
-    let a = b.before.before.before.before in
+    let b = c.before.before.before in
+    let a = b.before.before in
     let r = c.word_behind in
     (rw ((at_a a).0, (at_b b).0) r.ensures.0, forward-since _ _ _ r.result (omega (arith, (at_a a).1, (at_b b).1)) r.ensures.1)
 
@@ -47,7 +47,6 @@ pub pragma_spec : {M : Type 1} → statement M
 pragma_spec =
     tie.close
     (tie.spec
-    (λ c. search rules)
     (λ c κs. search rules)
     (λ c. search rules)
     (λ c. search rules)
@@ -56,6 +55,5 @@ pragma_spec =
     (λ c. search rules)
     (λ c. search rules)
     returns-2
-    (λ c. search rules)
-    (λ c κs. (at_b c.before).2)
+    (λ c κs. (at_b c.before.before).2)
     returns-3)

@@ -9,9 +9,7 @@ prefix_spec =
     tie.close
     (tie.spec
     (λ c. search rules)
-    (λ c. search rules)
     (λ c κs. search rules)
-    (λ c. search rules)
     (λ c. search rules)
     (λ c κs. search rules)
     (λ c. (rw c.in-Omp.is c.word.ensures.0, c.word.ensures.1))

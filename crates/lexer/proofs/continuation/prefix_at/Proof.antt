@@ -9,9 +9,7 @@ prefix_at_spec =
     tie.close
     (tie.spec
     (λ c. search rules)
-    (λ c. search rules)
     (λ c κs. search rules)
-    (λ c. search rules)
     (λ c. search rules)
     (λ c κs. search rules)
     (λ c. rw c.in-Omp.is c.begins_at.ensures)

@@ -10,7 +10,7 @@ use Rattle.rulebook.proofs.lookup.find_clause.Statement.{statement}
 use Rattle.rulebook.proofs.lookup.find_clause.Tie as tie
 
 -- the entry's place is inside the book, its index below the count
-inside : (c : tie.In-At-2) →
+inside : (c : tie.In-At) →
     let b = c.args.book.now in
     (c.in-At.at < length b) × (c.in-At.i < get_or b 8 0)
 inside c =
@@ -29,11 +29,11 @@ find_clause_spec =
     (λ c κs. let p = c.requires in (header-clauses _ _ p.0 p.1.0, p.1.1.0))
     (λ c. search rules)
     (λ c. let k = c.shared_slice_known-1.given 8 in
-    omega (arith, inside c.before, k))
-    (λ c. (inside c.before.before).0)
+    omega (arith, inside c, k))
+    (λ c. (inside c.before).0)
     (λ c κs. search rules)
     (λ c. search rules)
-    (λ c. let i : tie.In-At-2 = c.before.before.before in
+    (λ c. let i : tie.In-At = c.before.before in
     let f : tie.After-look_up = i.before in
     let p = f.requires in
     rw c.rule_said.ensures (sym (entry_found _ _ p.1.0 _ p.0 _ _ (sym f.look_up.ensures ∙ i.in-At.is))))

@@ -76,11 +76,11 @@ told l = record { long = l.loop-done.invariant.9.long; low = l.loop-done.invaria
 is-repeat-requires : tie.Need-is_repeat-requires invariant-loop-done decreases-loop-done
 is-repeat-requires c κs =
     let l = c.loop-done in
-    (laid-fewer _ _ l.done _ _ l.invariant.0 l.invariant.1, (c.signature-mark.ensures, told c.before.before.before.before.before.before))
+    (laid-fewer _ _ l.done _ _ l.invariant.0 l.invariant.1, (c.signature-mark.ensures, told c.before.before.before.before.before))
 
 returns : tie.Need-returns-then-is_repeat invariant-loop-done decreases-loop-done
 returns c =
-    let m : tie.After-name_at-range invariant-loop-done decreases-loop-done = c.before.before.before.before.before.before in
+    let m : tie.After-name_at-range invariant-loop-done decreases-loop-done = c.before.before.before.before.before in
     let l = m.loop-done in
     let n = m.args.entries.count in
     let h = sym c.is_repeat.ensures ∙ c.if-is_repeat.true in
@@ -88,7 +88,7 @@ returns c =
 
 loop-again : tie.Need-loop-done-preserved invariant-loop-done decreases-loop-done
 loop-again c =
-    let s : tie.After-signature-mark invariant-loop-done decreases-loop-done = c.before.before.before.before.before in
+    let s : tie.After-signature-mark invariant-loop-done decreases-loop-done = c.before.before.before.before in
     let m : tie.After-name_at-range invariant-loop-done decreases-loop-done = s.before.before in
     let l = m.loop-done in
     let a = m.args in
@@ -123,9 +123,9 @@ repeat_among_spec =
     (λ c. omega (arith, next c))
     (λ c. (next c).1)
     (λ c κs. search rules)
-    (λ c. omega (arith, next c.before.before.before))
-    (λ c. omega (arith, next c.before.before.before))
-    (λ c. (next c.before.before.before).1)
+    (λ c. omega (arith, next c.before.before))
+    (λ c. omega (arith, next c.before.before))
+    (λ c. (next c.before.before).1)
     is-repeat-requires
     (λ c. c.loop-done.invariant.9.long ∙ sym c.requires.1.1.long)
     returns
