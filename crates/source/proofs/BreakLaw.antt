@@ -81,7 +81,7 @@ places at (x ∷ t) gap p =
     let tail : is_plain t = λ i h. p (suc i) (omega arith) in
     let g = length (gap_bytes (gap 0)) in
     let q : at + (g + suc (length (broken t (λ i. gap (suc i))))) ≡ suc (at + g) + length (broken t (λ i. gap (suc i))) = omega arith in
-    rw (kept_more at x (gap 0) (woven-broken t (λ i. gap (suc i)) tail), map_more gap (suc (length t)), map-map, length-append, q)
+    rw (kept_more at x (gap 0) (woven-broken t (λ i. gap (suc i)) tail), map_more gap (suc (length t)), map-map (λ m. at + m) (λ m. suc (g + m)), length-append, q)
     (simp (regroup at g) (cons-path refl (places (suc (at + g)) t (λ i. gap (suc i)) tail)))
 
 pub broken-map : (t : List ℕ) (gap : ℕ → List Break) → is_plain t → joined_map C (broken t gap) ≡ broken_map gap 0 (suc (length t))

@@ -10,7 +10,7 @@ use Rattle.capi.proofs.pelzurda_join.Tie as tie
 
 call : (k : tie.After-join_line) →
     let a = k.args in let r = k.join_line in
-    ◌≡◌ {A = JoinCall} (record { answer = join_gives r.result; text = r.new.1.1.1.0; map = r.new.1.1.1.1.0 })
+    ◌≡◌ {A = JoinCall} (record { answer = join_gives r.result; text = r.new.text; map = r.new.map })
     (join_call (language_of a.language) (prefix_of a.prefix) a.line.now (length a.text.now) (length a.map.now))
 call k =
     let p : tie.After-prefix_of = k.before.before.before in

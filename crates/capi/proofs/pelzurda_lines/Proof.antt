@@ -17,10 +17,10 @@ returns c =
     let k : tie.After-answer_lines = c.before.before.before.before.before.before.before.before.before.before.before.before.before.before in
     let p : tie.After-prefix_of-sought = k.before.before.before.before.before in
     let r = k.answer_lines in
-    let texts = cleared-all r.new.1.1.1.1.1.1.1.0 c.clear_bytes.new.0 (length a.text.now) c.clear_bytes.ensures r.auto.1.1.1.1.1.1.1.0 in
-    let maps = cleared-all r.new.1.1.1.1.1.1.1.1.0 c.clear_words.new.0 (length a.map.now) c.clear_words.ensures r.auto.1.1.1.1.1.1.1.1.0 in
-    let count : c.lesser.result ≡ min (length a.ends.now) (length a.answers.now) = rw r.auto.1.1.1.1.1.1.1.1.1.1.0 at c.lesser.ensures in
-    let answers : r.new.1.1.1.1.1.1.1.1.1.1.0 ≡ answers_from (line_between (language_of a.language) (prefix_of a.prefix) a.book.now a.lines.now (length a.text.now) (length a.map.now) a.slots) no_line (length a.lines.now) (length a.answers.now) 0 a.ends.now
+    let texts = cleared-all r.new.text c.clear_bytes.new.slots (length a.text.now) c.clear_bytes.ensures r.auto.text in
+    let maps = cleared-all r.new.map c.clear_words.new.slots (length a.map.now) c.clear_words.ensures r.auto.map in
+    let count : c.lesser.result ≡ min (length a.ends.now) (length a.answers.now) = rw r.auto.answers at c.lesser.ensures in
+    let answers : r.new.answers ≡ answers_from (line_between (language_of a.language) (prefix_of a.prefix) a.book.now a.lines.now (length a.text.now) (length a.map.now) a.slots) no_line (length a.lines.now) (length a.answers.now) 0 a.ends.now
     = rw (p.language_of-spoken.ensures, p.prefix_of-sought.ensures) at r.ensures in
     rw (texts, maps, count, answers) refl
 

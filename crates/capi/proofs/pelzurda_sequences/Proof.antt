@@ -12,7 +12,7 @@ returns : tie.Need-returns
 returns c =
     let a = c.args in
     let r = c.answer_sequences in
-    let count : c.lesser.result ≡ min (length a.ends.now) (length a.answers.now) = rw r.auto.1.1.1.1.1.1.0 at c.lesser.ensures in
+    let count : c.lesser.result ≡ min (length a.ends.now) (length a.answers.now) = rw r.auto.answers at c.lesser.ensures in
     rw (count, r.ensures) refl
 
 pub pelzurda_sequences_spec : {M : Type 1} → statement M

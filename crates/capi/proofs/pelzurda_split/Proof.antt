@@ -10,7 +10,7 @@ use Rattle.capi.proofs.pelzurda_split.Tie as tie
 
 call : (k : tie.After-split_top_level) →
     let a = k.args in let r = k.split_top_level in
-    ◌≡◌ {A = SplitCall} (record { answer = split_answer r.result; items = r.new.1.1.1.1.0 })
+    ◌≡◌ {A = SplitCall} (record { answer = split_answer r.result; items = r.new.items })
     (split_call a.text.now (language_of a.language) (separator_of a.colon) (is_set a.angles) (length a.items.now))
 call k = rw (k.language_of-asked.ensures, k.separator_of.ensures) at k.split_top_level.ensures
 

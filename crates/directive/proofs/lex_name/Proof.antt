@@ -34,7 +34,7 @@ returns-2 : tie.Need-returns-in-Past
 returns-2 c =
     let m : tie.After-skip = c.before.before.before.before in
     let s : tie.Start = m.before.before.before.before in
-    let t = c.before.before.before.before in (
+    let t = c in (
       c.search.ensures.0
           ∙ sym (name-past s.args.header s.args.book.now s.args.text.now s.args.at t.in-Past.p s.requires.1.0 (sym m.skip.ensures.0 ∙ t.in-Past.is)),
       c.search.ensures.1,

@@ -16,13 +16,13 @@ use Rattle.directive.proofs.next_word.Tie as tie
 
 -- what follows, once trivia is passed
 past : (c : tie.After-starts_word) →
-    let s = c.before.before.before.before.before.before in
+    let s = c in
     let p = c.in-Past.p in
     next_if (book_of s.args.book.now) s.args.text.now s.args.end (kept_in s.args.len s.args.buffer.now)
     ≡ cond (c.starts_word.result && grows_if (book_of s.args.book.now) (kept_in s.args.len s.args.buffer.now)) (Word p) End
 past c =
     let m : tie.After-skip = c.before.before in
-    let s = m.before.before.before.before in
+    let s = m in
     rw c.starts_word.ensures
     (next_past s.args.header s.args.book.now s.args.text.now s.args.end (kept_in s.args.len s.args.buffer.now) c.in-Past.p s.requires.0
     (sym m.skip.ensures.0 ∙ c.in-Past.is))
@@ -37,7 +37,7 @@ returns-2 c =
 returns-3 : tie.Need-returns-in-OpenAt
 returns-3 c =
     let m : tie.After-skip = c.before in
-    let s = m.before.before.before.before in (
+    let s = m in (
       sym (next-open s.args.header s.args.book.now s.args.text.now s.args.end (kept_in s.args.len s.args.buffer.now) c.in-OpenAt.p s.requires.0
           (sym m.skip.ensures.0 ∙ c.in-OpenAt.is)),
       subst (Inside _ _) c.in-OpenAt.is m.skip.ensures.1,
@@ -45,19 +45,19 @@ returns-3 c =
 
 -- the same for a candidate that is kept
 grown : (c : tie.After-may_grow) →
-    let w : tie.After-starts_word = c.before.before.before.before in
-    let s = w.before.before.before.before.before.before in
+    let w : tie.After-starts_word = c.before.before.before in
+    let s = w in
     let p = w.in-Past.p in
     next_if (book_of s.args.book.now) s.args.text.now s.args.end (kept_in s.args.len s.args.buffer.now)
     ≡ cond c.may_grow.result (Word p) End
 grown c =
-    let w : tie.After-starts_word = c.before.before.before.before in
-    let g = c.before.before in
+    let w : tie.After-starts_word = c.before.before.before in
+    let g = c in
     past w ∙ rw (not-false w.starts_word.result g.if-not-starts_word.false-raw, le-leb _ _ g.if-len-gt512.false, c.may_grow.ensures)
 
 returns-4 : tie.Need-returns-then-may_grow
 returns-4 c =
-    let w : tie.After-starts_word = c.before.before.before.before.before in
+    let w : tie.After-starts_word = c.before.before.before.before in
     let m : tie.After-skip = w.before.before in
     (sym (rw c.if-may_grow.true at (grown c.before)), subst (Inside _ _) w.in-Past.is m.skip.ensures.1)
 
@@ -67,7 +67,7 @@ returns-5 c = (sym (rw c.if-may_grow.false at (grown c.before)), tt)
 -- the entry is that of the candidate
 asked : tie.Need-may_grow-requires
 asked c κs =
-    let s = c.before.before.before.before.before.before.before.before.before.before.before in
+    let s = c in
     (s.requires.0, (s.requires.1.0, s.requires.1.1.1 ∙ rw (le-leb _ _ c.if-len-gt512.false) refl))
 
 pub next_word_spec : {M : Type 1} → statement M

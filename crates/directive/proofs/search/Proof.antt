@@ -52,7 +52,7 @@ spaced w =
     let q : w.run_end-end.result - l.place ≡ leading is_word s = omega (arith, w.run_end-end.ensures.0) in
     rw q (spaced-grown (take l.len l.buffer) s l.invariant.3 (omega (arith, ahead w, w.run_end-end.ensures.0)))
 
-size : (w : tie.After-push_word-len invariant-loop-header decreases-loop-header) → length w.push_word-len.new.0 ≡ length w.args.buffer.now
+size : (w : tie.After-push_word-len invariant-loop-header decreases-loop-header) → length w.push_word-len.new.buffer ≡ length w.args.buffer.now
 size w = omega arith
 
 short : (w : tie.After-push_word-len invariant-loop-header decreases-loop-header) → Short (book_of w.args.book.now).directives
@@ -60,10 +60,10 @@ short w = short-book w.args.book.now (λ i. omega (arith, w.shared_slice_known-1
 
 -- the last name, once the candidate is looked up
 remembered : (m : tie.After-remember-found invariant-loop-header decreases-loop-header) →
-    let w : tie.After-push_word-len invariant-loop-header decreases-loop-header = m.before.before.before.before.before in
+    let w : tie.After-push_word-len invariant-loop-header decreases-loop-header = m.before.before.before.before in
     latest_of m.remember-found.result ≡ latest (entry_of (book_of w.args.book.now) (grown w)) w.run_end-end.result (latest_of w.loop-header.found)
 remembered m =
-    let w : tie.After-push_word-len invariant-loop-header decreases-loop-header = m.before.before.before.before.before in
+    let w : tie.After-push_word-len invariant-loop-header decreases-loop-header = m.before.before.before.before in
     let book = book_of w.args.book.now in
     m.remember-found.ensures
     ∙ ap (λ (o : Option ℕ). latest o w.run_end-end.result (latest_of w.loop-header.found))
@@ -73,7 +73,7 @@ good : (m : tie.After-remember-found invariant-loop-header decreases-loop-header
     let a = m.args in
     Good a.start (length a.text.now) (latest_of m.remember-found.result)
 good m =
-    let w : tie.After-push_word-len invariant-loop-header decreases-loop-header = m.before.before.before.before.before in
+    let w : tie.After-push_word-len invariant-loop-header decreases-loop-header = m.before.before.before.before in
     let a = w.args in
     let l = w.loop-header in
     rw (remembered m)
@@ -82,27 +82,27 @@ good m =
 
 -- a turn of the loop is one of the search
 turns : (n : tie.After-next_word invariant-loop-header decreases-loop-header) →
-    let w : tie.After-push_word-len invariant-loop-header decreases-loop-header = n.before.before.before.before.before.before.before in
+    let w : tie.After-push_word-len invariant-loop-header decreases-loop-header = n.before.before.before.before.before in
     let a = w.args in
     turned (book_of a.book.now) a.text.now a.from (grown w) (latest_of n.remember-found.result) n.next_word.result
     ≡ name_from (book_of a.book.now) a.text.now a.from [] none 0 a.start (drop a.start a.text.now)
 turns n =
-    let w : tie.After-push_word-len invariant-loop-header decreases-loop-header = n.before.before.before.before.before.before.before in
+    let w : tie.After-push_word-len invariant-loop-header decreases-loop-header = n.before.before.before.before.before in
     let a = w.args in
     let l = w.loop-header in
     let book = book_of a.book.now in
     let end = w.run_end-end.result in
-    let kept = kept_in w.push_word-len.result w.push_word-len.new.0 in
+    let kept = kept_in w.push_word-len.result w.push_word-len.new.buffer in
     let t =
     turn book a.text.now a.from (take l.len l.buffer) (latest_of l.found) kept l.place end (grown w) (here w) w.run_end-end.ensures.0 refl
     (ap (grows_if book) w.push_word-len.ensures ∙ grows-fits book (grown w) (short w) (spaced w))
     (subst (Ahead end (length a.text.now)) n.next_word.ensures.0 n.next_word.ensures.1)
     in
-    rw (remembered n.before.before, n.next_word.ensures.0) (sym t ∙ l.invariant.4)
+    rw (remembered n.before, n.next_word.ensures.0) (sym t ∙ l.invariant.4)
 
 -- the next word stands behind this one, inside the text
 follows : (c : tie.In-Word invariant-loop-header decreases-loop-header) →
-    let w : tie.After-push_word-len invariant-loop-header decreases-loop-header = c.before.before.before.before.before.before.before.before in
+    let w : tie.After-push_word-len invariant-loop-header decreases-loop-header = c.before.before.before.before.before.before in
     (w.run_end-end.result ≤ c.in-Word.p) × (c.in-Word.p ≤ length w.args.text.now)
 follows c =
     let n : tie.After-next_word invariant-loop-header decreases-loop-header = c.before in
@@ -111,11 +111,11 @@ follows c =
 loop-again : tie.Need-loop-header-preserved invariant-loop-header decreases-loop-header
 loop-again c =
     let n : tie.After-next_word invariant-loop-header decreases-loop-header = c.before in
-    let w : tie.After-push_word-len invariant-loop-header decreases-loop-header = n.before.before.before.before.before.before.before in
+    let w : tie.After-push_word-len invariant-loop-header decreases-loop-header = n.before.before.before.before.before in
     let a = w.args in
     let e = c.in-Word.is in
-    let k = word_kept (book_of a.book.now) a.text.now w.run_end-end.result c.in-Word.p w.push_word-len.result w.push_word-len.new.0 (grown w) w.push_word-len.ensures (sym n.next_word.ensures.0 ∙ e) in
-    ((follows c).1, k.0, omega arith, rw k.1 (spaced w), rw k.1 (rw e at (turns n)), omega (arith, ahead w, follows c), good n.before.before)
+    let k = word_kept (book_of a.book.now) a.text.now w.run_end-end.result c.in-Word.p w.push_word-len.result w.push_word-len.new.buffer (grown w) w.push_word-len.ensures (sym n.next_word.ensures.0 ∙ e) in
+    ((follows c).1, k.0, omega arith, rw k.1 (spaced w), rw k.1 (rw e at (turns n)), omega (arith, ahead w, follows c), good n.before)
 
 returns : tie.Need-returns-in-End invariant-loop-header decreases-loop-header
 returns c =
@@ -123,14 +123,14 @@ returns c =
     let a = n.args in
     let p = n.requires.1.1.1 in (
       c.finish.ensures ∙ ap (named a.start) (rw c.in-End.is at (turns n)),
-      finished-placed a.from a.start (length a.text.now) (latest_of n.remember-found.result) c.finish.result c.finish.ensures p.0 p.1 (good n.before.before),
+      finished-placed a.from a.start (length a.text.now) (latest_of n.remember-found.result) c.finish.result c.finish.ensures p.0 p.1 (good n.before),
     )
 
 returns-2 : tie.Need-returns-in-Open invariant-loop-header decreases-loop-header
 returns-2 c =
     let n : tie.After-next_word invariant-loop-header decreases-loop-header = c.before in
     let a = n.args in
-    let w : tie.After-push_word-len invariant-loop-header decreases-loop-header = n.before.before.before.before.before.before.before in
+    let w : tie.After-push_word-len invariant-loop-header decreases-loop-header = n.before.before.before.before.before in
     let i = subst (Ahead w.run_end-end.result (length a.text.now)) c.in-Open.is n.next_word.ensures.1 in
     (ap (named a.start) (rw c.in-Open.is at (turns n)), (omega (arith, i.0, ahead w, w.loop-header.invariant.5, n.requires.1.1.1.0), i.1))
 
@@ -160,14 +160,14 @@ search_spec =
     (λ c κs. search rules)
     (λ c κs. (c.requires.0, (c.requires.1.0, ((omega arith, omega arith), c.kept_entry-entry.ensures))))
     (λ c. search rules)
-    (λ c. omega (arith, follows c, ahead c.before.before.before.before.before.before.before.before))
+    (λ c. omega (arith, follows c, ahead c.before.before.before.before.before.before))
     loop-again
     (λ c. search rules)
     (λ c κs. search rules)
-    (λ c. size c.before.before.before.before.before.before.before.before.before)
+    (λ c. size c.before.before.before.before.before.before.before)
     returns
     (λ c. search rules)
-    (λ c. size c.before.before.before.before.before.before.before.before)
+    (λ c. size c.before.before.before.before.before.before)
     returns-2
     (λ c κs. search rules)
     (λ c. omega arith)

@@ -16,13 +16,13 @@ fine : (c : tie.In-Fine) →
     length a.content.now ≤ length a.copy.now
 fine c = copy-fits _ _ (sym c.judge_copy-verdict.ensures ∙ c.in-Fine.is)
 
-size : (c : tie.After-copy_into-n) → c.copy_into-n.result ≤ length c.copy_into-n.new.1.0
+size : (c : tie.After-copy_into-n) → c.copy_into-n.result ≤ length c.copy_into-n.new.copy
 size c = omega (arith, fine c.before.before)
 
 refused : tie.Need-returns-in-Bad
 refused c =
     let m : tie.After-clear_bytes = c.before.before in
-    let v : tie.In-Bad-2 = m.before.before.before in
+    let v : tie.In-Bad = m.before.before in
     rw m.clear_bytes.ensures (sym (copy-bad _ _ _ (sym v.judge_copy-verdict.ensures ∙ v.in-Bad.is)))
 
 copied : tie.Need-returns-in-Fine
@@ -33,7 +33,7 @@ copied c =
     let r = k.copy_into-n in
     let e = sym t.judge_copy-verdict.ensures ∙ t.in-Fine.is in
     let copy = m.clear_bytes-in-Fine.ensures ∙ padded-take 0 _ _ (size k) r.ensures.1.1 in
-    rw (copy, r.auto.1.0, r.ensures.1.0) (sym (copy-fine _ _ e))
+    rw (copy, r.auto.copy, r.ensures.1.0) (sym (copy-fine _ _ e))
 
 pub copy_content_spec : {M : Type 1} → statement M
 copy_content_spec =

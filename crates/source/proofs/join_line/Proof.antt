@@ -17,13 +17,13 @@ fine : (c : tie.In-Fine) →
     (length a.line.now ≤ max_length) × (length a.line.now ≤ length a.text.now) × (length a.line.now < length a.map.now)
 fine c = join-fits _ _ _ _ _ (sym c.judge_join-verdict.ensures ∙ c.in-Fine.is)
 
-sizes : (c : tie.After-join_into-n) → let r = c.join_into-n in (r.result ≤ length r.new.1.1.0) × (r.result + 1 ≤ length r.new.1.1.1.0)
+sizes : (c : tie.After-join_into-n) → let r = c.join_into-n in (r.result ≤ length r.new.text) × (r.result + 1 ≤ length r.new.map)
 sizes c = omega (arith, fine c.before.before.before)
 
 refused : tie.Need-returns-in-Bad
 refused c =
     let m : tie.After-clear_bytes = c.before.before.before.before.before.before in
-    let v : tie.In-Bad-2 = m.before.before.before in
+    let v : tie.In-Bad = m.before.before in
     rw (m.clear_bytes.ensures, c.clear_words.ensures) (sym (join-bad _ _ _ _ _ _ (sym v.judge_join-verdict.ensures ∙ v.in-Bad.is)))
 
 joined : tie.Need-returns-in-Fine
@@ -35,7 +35,7 @@ joined c =
     let e = sym t.judge_join-verdict.ensures ∙ t.in-Fine.is in
     let text = m.clear_bytes-in-Fine.ensures ∙ padded-take 0 _ _ (sizes k).0 r.ensures.1.1.0 in
     let map = c.clear_words-in-Fine.ensures ∙ padded-take 0 _ _ (sizes k).1 r.ensures.1.1.1 in
-    rw (text, map, r.auto.1.1.0, r.auto.1.1.1.0, r.ensures.1.0) (sym (join-fine _ _ _ _ _ e))
+    rw (text, map, r.auto.text, r.auto.map, r.ensures.1.0) (sym (join-fine _ _ _ _ _ e))
 
 pub join_line_spec : {M : Type 1} → statement M
 join_line_spec =

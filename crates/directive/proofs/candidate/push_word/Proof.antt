@@ -36,5 +36,5 @@ push_word_spec =
     (λ c. search rules)
     (λ c. search rules)
     (λ c κs. search rules)
-    (λ c. omega (arith, simp length-set at c.put_behind-2.auto.0))
+    (λ c. omega (arith, simp length-set at c.put_behind-2.auto.buffer))
     returns-3)

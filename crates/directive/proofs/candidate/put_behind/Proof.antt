@@ -24,7 +24,7 @@ returns-2 c =
     let m : tie.After-copy_part = c.before.before in
     let a = m.args in
     let w = take (a.end - a.start) (drop a.start a.text.now) in
-    kept-fits m.copy_part.result m.copy_part.new.1.1.1.0 (take a.from a.buffer.now ++ w) (omega (arith, m.copy_part.ensures.0)) m.copy_part.ensures.1
+    kept-fits m.copy_part.result m.copy_part.new.buffer (take a.from a.buffer.now ++ w) (omega (arith, m.copy_part.ensures.0)) m.copy_part.ensures.1
 
 pub put_behind_spec : {M : Type 1} → statement M
 put_behind_spec =

@@ -34,7 +34,7 @@ physical c =
 
 -- what joining has written
 sizes : (c : tie.After-join_into-n) → let r = c.join_into-n in
-    (r.result ≤ max_length) × (r.result ≤ length r.new.1.1.0) × (r.result + 1 ≤ length r.new.1.1.1.0)
+    (r.result ≤ max_length) × (r.result ≤ length r.new.text) × (r.result + 1 ≤ length r.new.map)
 sizes c = let f = fits c.before.before.before.before.before.before in omega (arith, f.short, f.text, f.map)
 
 returns : tie.Need-returns-in-Bad
@@ -56,13 +56,13 @@ returns-2 c =
 
 returns-3 : tie.Need-returns
 returns-3 c =
-    let k : tie.After-join_into-n = c.before.before.before.before.before.before in
+    let k : tie.After-join_into-n = c.before.before.before.before.before in
     let u : tie.In_default-physical = k.before.before.before in
     let r = k.join_into-n in
     let a = c.args in
     let e = line_read a.language a.prefix a.book.now a.line.now _ _ a.slots (passed u.before.before.before) (physical u) in
-    gives-joined a.language a.prefix a.book.now a.line.now a.slots r.new.1.1.0 r.new.1.1.1.0 r.result c.head_of.result
-    (rw (r.auto.1.1.0, r.auto.1.1.1.0) e) (sizes k).1 (sizes k).2 r.ensures.1.1.0 r.ensures.1.1.1 c.head_of.ensures
+    gives-joined a.language a.prefix a.book.now a.line.now a.slots r.new.text r.new.map r.result c.head_of.result
+    (rw (r.auto.text, r.auto.map) e) (sizes k).1 (sizes k).2 r.ensures.1.1.0 r.ensures.1.1.1 c.head_of.ensures
 
 pub head_under_spec : {M : Type 1} → statement M
 head_under_spec =
@@ -80,8 +80,8 @@ head_under_spec =
     (λ c. search rules)
     (λ c κs. let f = fits c.before.before.before.before.before in (f.short, (f.text, f.map)))
     (λ c. (sizes c.before.before.before.before).1)
-    (λ c. sym (length-take-le _ _ (sizes c.before.before.before.before.before).1))
-    (λ c κs. let k : tie.After-join_into-n = c.before.before.before.before.before in
+    (λ c. sym (length-take-le _ _ (sizes c.before.before.before.before).1))
+    (λ c κs. let k : tie.After-join_into-n = c.before.before.before.before in
     ((fits k.before.before.before.before.before.before).valid, (known k.before.before.before.before.before, (k.requires.1, rw (length-take-le _ _ (sizes k).1) (sizes k).0))))
     (λ c. search rules)
     (λ c. search rules)

@@ -11,8 +11,8 @@ returns : tie.Need-returns
 returns c =
     let a = c.args in
     let h = c.head_under-head in
-    rw (h.auto.1.1.1.1.1.1.0, h.auto.1.1.1.1.1.1.1.0)
-    at (line-answers a.language a.prefix a.book.now a.line.now a.slots h.new.1.1.1.1.1.1.0 h.new.1.1.1.1.1.1.1.0 h.result c.count_clauses-clauses.result c.answer_of.result
+    rw (h.auto.text, h.auto.map)
+    at (line-answers a.language a.prefix a.book.now a.line.now a.slots h.new.text h.new.map h.result c.count_clauses-clauses.result c.answer_of.result
     h.ensures c.count_clauses-clauses.ensures c.answer_of.ensures)
 
 pub line_answer_spec : {M : Type 1} → statement M

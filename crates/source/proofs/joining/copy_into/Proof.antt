@@ -30,7 +30,7 @@ loop-again c =
     let p = c.copy_part-k in
     let none = sym c.if-gone-eq0.true ∙ c.any_cut_at-gone.ensures.0 in
     let s : Stays t l.i c.plain_end-end.result = stays-first t l.i _ c.loop-i-test.true none c.plain_end-end.ensures in
-    (omega (arith, s.ordered, p.ensures.0), s.within, p.auto.1.1.1.0 ∙ l.invariant.2, rw (p.ensures.1, append_assoc, ← s.kept) l.invariant.3)
+    (omega (arith, s.ordered, p.ensures.0), s.within, p.auto.buffer ∙ l.invariant.2, rw (p.ensures.1, append_assoc, ← s.kept) l.invariant.3)
 
 returns : tie.Need-returns invariant-loop-i decreases-loop-i
 unfolding collapsed
