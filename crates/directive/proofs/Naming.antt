@@ -83,8 +83,8 @@ module _ (book : Book) (text : List ℕ) (search : ℕ) (c : List ℕ) (found : 
         ≡ cond (starts_word (drop p text) && may_grow book (extended c (word_of (x ∷ xs))))
         (name_from book text search (extended c (word_of (x ∷ xs))) (latest (entry_of book (extended c (word_of (x ∷ xs)))) (at + length (word_of (x ∷ xs))) found) (p - suc at) (suc at) xs)
         (or_missing search (latest (entry_of book (extended c (word_of (x ∷ xs)))) (at + length (word_of (x ∷ xs))) found))
-    unfolding name_from
-    first_past e = rw (name_from, e, h)
+    unfolding name_from may_grow
+    first_past e = rw (e, h)
 
 -- the rest of the search, by what follows a word
 abbrev pub turned : Book → List ℕ → ℕ → List ℕ → Option Candidate → Next → Answer Candidate
