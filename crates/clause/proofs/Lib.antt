@@ -4,8 +4,6 @@ pub mod Appended
 pub mod Walking
 pub mod Filling
 pub mod Stopping
-pub mod Lending
-pub mod Indices
 pub mod Properness
 pub mod Sequencing
 pub mod Starting
