@@ -65,15 +65,15 @@ returns-4 : tie.Need-returns-in-Refused-prefix
 unfolding opening_c
 returns-4 c =
     let d = c.before.before in
-    (rw ((at_a d.before.before.before.before.before.before.before.before).0, (at_b d.before.before.before.before).0, (at_c d).0, sym c.prefix.ensures.0 ∙ ap step_of c.in-Refused-prefix.is), tt)
+    (rw ((at_a d.before.before.before.before).0, (at_b d.before.before).0, (at_c d).0, sym c.prefix.ensures.0 ∙ ap step_of c.in-Refused-prefix.is), tt)
 
 returns-5 : tie.Need-returns
 unfolding opening_c
 returns-5 c =
     let e = c.before in
-    let d = e.before.before.before.before in
+    let d = e.before.before in
     let r = c.some_trivia-2 in
-    (rw ((at_a d.before.before.before.before.before.before.before.before).0, (at_b d.before.before.before.before).0, (at_c d).0, (at-d e).0) r.ensures.0, from_start _ _ r.result r.ensures.1)
+    (rw ((at_a d.before.before.before.before).0, (at_b d.before.before).0, (at_c d).0, (at-d e).0) r.ensures.0, from_start _ _ r.result r.ensures.1)
 
 pub opening_c_spec : {M : Type 1} → statement M
 opening_c_spec =
