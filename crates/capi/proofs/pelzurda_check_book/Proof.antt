@@ -15,7 +15,7 @@ valid c =
 refused : tie.Need-returns-in-Refused
 refused c =
     let k : tie.After-check_book = c.before.before in
-    c.code_of_lem.ensures ∙ ap (λ a. coded_yes (book_gives a)) (sym c.in-Refused.is) ∙ ap coded_yes k.check_book.ensures
+    c.code_of.ensures ∙ ap (λ a. coded_yes (book_gives a)) (sym c.in-Refused.is) ∙ ap coded_yes k.check_book.ensures
 
 pub pelzurda_check_book_spec : {M : Type 1} → statement M
 pelzurda_check_book_spec =

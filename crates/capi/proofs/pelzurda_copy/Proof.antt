@@ -11,13 +11,13 @@ copied : tie.Need-returns-in-Copied
 copied c =
     let k : tie.After-copy_content = c.before.before.before in
     let e = k.copy_content.ensures in
-    (ap (λ a. coded (copy_gives a)) (sym c.in-Copied.is) ∙ ap (λ x. coded x.answer) e, ap (λ x. x.copy-1) e)
+    (ap (λ a. coded (copy_gives a)) (sym c.in-Copied.is) ∙ ap (λ x. coded x.answer) e, ap (λ x. x.copy) e)
 
 refused : tie.Need-returns-in-Refused
 refused c =
     let k : tie.After-copy_content = c.before.before.before.before in
     let e = k.copy_content.ensures in
-    (c.code_of_lem.ensures ∙ ap (λ a. coded (copy_gives a)) (sym c.in-Refused.is) ∙ ap (λ x. coded x.answer) e, ap (λ x. x.copy-1) e)
+    (c.code_of.ensures ∙ ap (λ a. coded (copy_gives a)) (sym c.in-Refused.is) ∙ ap (λ x. coded x.answer) e, ap (λ x. x.copy) e)
 
 pub pelzurda_copy_spec : {M : Type 1} → statement M
 pelzurda_copy_spec =

@@ -19,13 +19,13 @@ call k =
 joined : tie.Need-returns-in-Joined
 joined c =
     let e = call c.before.before.before.before.before in
-    (ap (λ a. coded (join_gives a)) (sym c.in-Joined.is) ∙ ap (λ x. coded x.answer) e, (ap (λ x. x.text-1) e, ap (λ x. x.map-1) e))
+    (ap (λ a. coded (join_gives a)) (sym c.in-Joined.is) ∙ ap (λ x. coded x.answer) e, (ap (λ x. x.text) e, ap (λ x. x.map) e))
 
 refused : tie.Need-returns-in-Refused
 refused c =
     let e = call c.before.before.before.before.before.before in
     let r = ap (λ a. coded (join_gives a)) (sym c.in-Refused.is) in
-    (c.code_of_lem.ensures ∙ r ∙ ap (λ x. coded x.answer) e, (ap (λ x. x.text-1) e, ap (λ x. x.map-1) e))
+    (c.code_of.ensures ∙ r ∙ ap (λ x. coded x.answer) e, (ap (λ x. x.text) e, ap (λ x. x.map) e))
 
 pub pelzurda_join_spec : {M : Type 1} → statement M
 pelzurda_join_spec =

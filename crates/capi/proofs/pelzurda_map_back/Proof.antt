@@ -17,7 +17,7 @@ refused : tie.Need-returns-in-Refused
 refused c =
     let k : tie.After-map_back = c.before.before.before in
     let e = ap span_gives (sym c.in-Refused.is) ∙ k.map_back.ensures in
-    (c.code_of_lem.ensures ∙ ap coded_yes e, ap span_ends e)
+    (c.code_of.ensures ∙ ap coded_yes e, ap span_ends e)
 
 pub pelzurda_map_back_spec : {M : Type 1} → statement M
 pelzurda_map_back_spec =

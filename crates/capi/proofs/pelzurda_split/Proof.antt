@@ -17,13 +17,13 @@ call k = rw (k.language_of-asked.ensures, k.separator_of.ensures) at k.split_top
 items : tie.Need-returns-in-Items
 items c =
     let e = call c.before.before.before in
-    (ap (λ a. coded (split_answer a)) (sym c.in-Items.is) ∙ ap (λ x. coded x.answer) e, ap (λ x. x.items-1) e)
+    (ap (λ a. coded (split_answer a)) (sym c.in-Items.is) ∙ ap (λ x. coded x.answer) e, ap (λ x. x.items) e)
 
 refused : tie.Need-returns-in-Refused
 refused c =
     let e = call c.before.before.before.before in
     let r = ap (λ a. coded (split_answer a)) (sym c.in-Refused.is) in
-    (c.code_of_lem.ensures ∙ r ∙ ap (λ x. coded x.answer) e, ap (λ x. x.items-1) e)
+    (c.code_of.ensures ∙ r ∙ ap (λ x. coded x.answer) e, ap (λ x. x.items) e)
 
 pub pelzurda_split_spec : {M : Type 1} → statement M
 pelzurda_split_spec =

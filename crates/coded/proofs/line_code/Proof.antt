@@ -13,4 +13,4 @@ line_code_spec =
     (λ c. search rules)
     (λ c κs. search rules)
     (λ c. rw c.in-Read.is (refl, refl))
-    (λ c. rw c.in-Refused.is (c.code_of_lem.ensures, refl)))
+    (λ c. rw c.in-Refused.is (c.code_of.ensures, refl)))

@@ -15,4 +15,4 @@ line_numbers_spec =
     (λ c. search rules)
     (λ c κs. search rules)
     (λ c. rw c.in-Read.is)
-    (λ c. rw c.in-Refused.is (ap (λ (n : ℕ). n ∷ 0 ∷ 0 ∷ 0 ∷ 0 ∷ []) c.code_of_lem.ensures)))
+    (λ c. rw c.in-Refused.is (ap (λ (n : ℕ). n ∷ 0 ∷ 0 ∷ 0 ∷ 0 ∷ []) c.code_of.ensures)))
