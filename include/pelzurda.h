@@ -1,4 +1,4 @@
-/* Pelzurda's calls for programs in C and C++. `rt staticlib capi` writes target/staticlib/libcapi.a: link that, and nothing else.
+/* Pelzurda's calls for programs in C and C++. `tools/archive` writes target/staticlib/libcapi.a: link that, and nothing else.
  *
  * A slice is a pointer and a number of elements. A pointer is never null, also where the number is 0; it is aligned for its elements, which
  * stay as they are during the call; and what a call writes overlaps with nothing else that it is given. The flags of lent clause records are

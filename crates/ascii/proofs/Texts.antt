@@ -1,6 +1,6 @@
 -- Laws of runs, comparing and the first high byte, at a place of a text in the terms of a loop; of trimming; and of dropping to a place.
 -- Assumes nothing.
-use mathlib.Core.Path.{◌≡◌, refl, sym, ap, ◌∙◌}
+use mathlib.Core.Path.{◌≡◌, refl, ap, ◌∙◌}
 use mathlib.Core.Bool.{Bool, true, false, cond, ◌&&◌}
 use mathlib.Core.Option.{some, none}
 use mathlib.Core.List.{List, [], ◌∷◌, ◌++◌, reverse, reverse-append, reverse-cons}
@@ -8,8 +8,8 @@ use Prim.Native.Nat.{ℕ, zero, suc, ◌+◌, ◌-◌, ◌<◌, ◌≤◌}
 use native.Mathlib.Nat.{add-zero, zero-add}
 use native.Mathlib.Numerals.{add-one}
 use native.Mathlib.Omega.{arith}
-use lib.ListN.{length, take, drop, get_or, length-append, length-reverse, length-drop, length-take, drop_of_length-le}
-use lib.Seq.{drop-cons, take-suc, take_all, split_at, append_snoc}
+use lib.ListN.{length, take, drop, get_or, length-reverse, length-drop, drop_of_length-le}
+use lib.Seq.{drop-cons, take-suc, split_at, append_snoc}
 use lib.Dec.{eqb, ltb}
 use borrow.Author.Tests.{lt-ltb, le-ltb, ltb-true, eq-eqb, ne_eqb, eqb-true, eqb-false}
 use Rattle.ascii.specs.declared.Range.{Range}

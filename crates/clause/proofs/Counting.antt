@@ -11,7 +11,6 @@ use Rattle.rulebook.specs.Book.{book_of}
 use Rattle.clause.specs.declared.SequenceState.{SequenceState}
 use Rattle.clause.specs.declared.SequenceAnswer.{SequenceAnswer}
 use Rattle.clause.specs.declared.Progress.{Progress}
-use Rattle.clause.specs.declared.Progress.TheVariants as Progress
 use Rattle.clause.specs.Clause.{zero_record}
 use Rattle.clause.specs.Calls.{SequenceCall, counted, sequence_gives}
 use Rattle.clause.specs.Steps.{Proper, Started, onward, is_going, next_state, state_at, records_from, answer_by, answer_of, kept_of, read_on}

@@ -19,7 +19,7 @@ use Rattle.refusal.specs.declared.Reason.{Reason}
 use Rattle.refusal.specs.declared.Reason.TheVariants.{TooLong, HighByte, ShortBuffer, WrongBook, WrongLanguage, InvalidLine, NoOpening, UnclosedComment, NoDirective, NoClause, NoParenthesis, Unmatched as NoMatch, TooDeep, NoSlot, EmptyItem, UnclosedQuote, WrongClosing, UnclosedBracket, BadSpan}
 use Rattle.refusal.specs.declared.Refusal.{Refusal}
 use Rattle.refusal.specs.Table.{number_of}
-use Rattle.refusal.specs.Answer.{Answer, given, refused_by, unless_fault}
+use Rattle.refusal.specs.Answer.{given, refused_by, unless_fault}
 use Rattle.refusal.proofs.Answers.{never}
 use Rattle.code.specs.declared.CommentStyle.{CommentStyle}
 use Rattle.code.specs.declared.CommentStyle.TheVariants.{CLike, Fortran}

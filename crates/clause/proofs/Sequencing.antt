@@ -28,7 +28,6 @@ use Rattle.clause.specs.declared.Progress.{Progress}
 use Rattle.clause.specs.declared.Progress.TheVariants.{Going, Ended, Refused}
 use Rattle.clause.specs.declared.SequenceState.{SequenceState}
 use Rattle.clause.specs.declared.SequenceAnswer.{SequenceAnswer}
-use Rattle.clause.specs.declared.SequenceAnswer.TheVariants as SequenceAnswer
 use Rattle.clause.specs.Clause.{Read, clause, failed, deep, style, closing, argument, word_length, found, clause_at, zero_record}
 use Rattle.clause.specs.Sequence.{Sequence, Separated, then, open_comment, separated, consed, flagged, is_unsupported, sequence_from}
 use Rattle.clause.specs.Calls.{SequenceCall, sequence_gives}

@@ -7,7 +7,6 @@ use Rattle.rulebook.specs.Check.{book_fault}
 use Rattle.clause.specs.declared.ClauseRecord.{ClauseRecord}
 use Rattle.clause.specs.declared.SequenceEnd.{SequenceEnd}
 use Rattle.clause.specs.declared.SequenceAnswer.{SequenceAnswer}
-use Rattle.clause.specs.declared.SequenceAnswer.TheVariants as SequenceAnswer
 use Rattle.clause.specs.Clause.{zero_record}
 use Rattle.clause.specs.Sequence.{Sequence, sequence_at}
 

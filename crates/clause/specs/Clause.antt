@@ -1,5 +1,5 @@
 -- One clause: its word, its rule under the book, and its argument.
-use Rattle.std.specs.Prelude.{ℕ, suc, ◌+◌, ◌-◌, Bool, true, false, List, take, drop, eqb}
+use Rattle.std.specs.Prelude.{ℕ, suc, ◌+◌, ◌-◌, true, false, List, take, drop, eqb}
 use Rattle.std.proofs.Math.Bool.{cond}
 use Rattle.std.proofs.Math.Option.{Option}
 use Rattle.ascii.specs.Ascii.{is_word}

@@ -20,12 +20,9 @@ use Rattle.rulebook.specs.Book.{Book, book_of, header_of, no_header}
 use Rattle.rulebook.specs.Check.{book_fault}
 use Rattle.clause.specs.declared.ClauseRecord.{ClauseRecord}
 use Rattle.clause.specs.declared.SequenceAnswer.{SequenceAnswer}
-use Rattle.clause.specs.declared.SequenceAnswer.TheVariants as SequenceAnswer
 use Rattle.clause.specs.declared.ClauseWord.{ClauseWord}
 use Rattle.clause.specs.declared.ClauseRead.{ClauseRead}
-use Rattle.clause.specs.declared.ClauseRead.TheVariants as ClauseRead
 use Rattle.clause.specs.declared.Separation.{Separation}
-use Rattle.clause.specs.declared.Separation.TheVariants as Separation
 use Rattle.clause.specs.declared.Progress.{Progress}
 use Rattle.clause.specs.declared.Progress.TheVariants.{Going, Ended, Refused}
 use Rattle.clause.specs.declared.SequenceState.{SequenceState}

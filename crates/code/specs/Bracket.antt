@@ -4,7 +4,6 @@ use Rattle.code.specs.declared.Bracket.{Bracket}
 use Rattle.code.specs.declared.Bracket.TheVariants.{Round, Square, Curly, Angle}
 use Rattle.code.specs.declared.OpenBrackets.{OpenBrackets}
 use Rattle.code.specs.declared.Change.{Change}
-use Rattle.code.specs.declared.Change.TheVariants as Change
 
 -- "The bracket kinds carry their own opening and closing bytes."
 abbrev pub opening_of : Bracket → ℕ

@@ -1,5 +1,5 @@
 -- Answers as one number of 64 bits, and what the numbers stand for that programs in C pass for a language, a prefix or a separator.
-use Rattle.std.specs.Prelude.{ℕ, ◌+◌, ◌*◌, ◌-◌, Bool, true, false, cond, not, List, [], ◌∷◌, ltb, eqb}
+use Rattle.std.specs.Prelude.{ℕ, ◌+◌, ◌*◌, Bool, cond, not, List, [], ◌∷◌, ltb, eqb}
 use Rattle.ascii.specs.declared.Range.{Range}
 use Rattle.refusal.specs.Answer.{Answer, given, refused}
 use Rattle.delimiter.specs.declared.Separator.{Separator}

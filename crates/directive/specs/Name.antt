@@ -14,7 +14,6 @@ use Rattle.rulebook.specs.Book.{Entry, Book}
 use Rattle.rulebook.specs.Lookup.{comparison, entry_from}
 use Rattle.directive.specs.declared.DirectiveName.{DirectiveName}
 use Rattle.directive.specs.declared.NameAnswer.{NameAnswer}
-use Rattle.directive.specs.declared.NameAnswer.TheVariants as NameAnswer
 
 -- a name without its blanks
 unfoldable pub compact : List ℕ → List ℕ

@@ -10,10 +10,8 @@ use lib.Dec.{eqb}
 use lib.Seq.{drop-drop}
 use Rattle.ascii.specs.Ascii.{exactly}
 use Rattle.ascii.specs.Text.{bytes, begins}
-use Rattle.refusal.specs.Answer.{Answer, given, refused, and_then}
-use Rattle.lexer.specs.declared.Skipped.TheVariants.{Past}
-use Rattle.lexer.specs.Trivia.{skip}
-use Rattle.lexer.specs.Steps.{trivia_step, word_behind, word_step, pragma_step}
+use Rattle.refusal.specs.Answer.{given, refused}
+use Rattle.lexer.specs.Steps.{word_step, pragma_step}
 use Rattle.lexer.specs.Laws.{UnspacedPragmaStays}
 
 -- the word in two parts

@@ -17,7 +17,6 @@ use Rattle.rulebook.specs.Lookup.{IsAppended}
 use Rattle.clause.specs.declared.ClauseRecord.{ClauseRecord}
 use Rattle.reader.specs.declared.Reading.{Reading}
 use Rattle.reader.specs.declared.LineAnswer.{LineAnswer}
-use Rattle.reader.specs.declared.LineAnswer.TheVariants as LineAnswer
 use Rattle.reader.specs.Calls.{LineCall, line_call, line_gives}
 use Rattle.reader.proofs.Breaks.{breaks-change-nothing}
 use Rattle.reader.proofs.Appended.{appended-names-keep-readings}

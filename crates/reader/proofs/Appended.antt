@@ -21,7 +21,7 @@ use Rattle.clause.proofs.Appended.{sequence_at-kept}
 use Rattle.directive.specs.Name.{name_at}
 use Rattle.directive.proofs.SameNames.{names-go-by-directives}
 use Rattle.reader.specs.Line.{opening, parsed, suits, line_answer}
-use Rattle.reader.specs.Calls.{reading_of, line_call, line_within}
+use Rattle.reader.specs.Calls.{reading_of, line_within}
 use Rattle.reader.specs.Laws.{AppendedNamesKeepReadings}
 
 suits-same : (l : Language) (b d : Book) → b.ignores_case ≡ d.ignores_case → suits l b ≡ suits l d

@@ -16,7 +16,7 @@ use Rattle.source.proofs.BreakLaw.{woven-text, woven-broken, breaks-keep-text}
 use Rattle.rulebook.specs.Book.{book_of}
 use Rattle.rulebook.specs.Check.{book_fault}
 use Rattle.reader.specs.Line.{parsed, suits, line_answer}
-use Rattle.reader.specs.Calls.{line_call, line_within}
+use Rattle.reader.specs.Calls.{line_within}
 use Rattle.reader.specs.Laws.{BreaksChangeNothing}
 
 -- what the whole line makes of a woven line that passes rows 1 to 3

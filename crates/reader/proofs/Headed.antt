@@ -23,7 +23,6 @@ use Rattle.rulebook.specs.declared.Header.{Header}
 use Rattle.rulebook.specs.Book.{Book, header_of, book_of}
 use Rattle.rulebook.specs.Check.{book_fault, book_call}
 use Rattle.clause.specs.declared.SequenceAnswer.{SequenceAnswer}
-use Rattle.clause.specs.declared.SequenceAnswer.TheVariants as SequenceAnswer
 use Rattle.clause.specs.Sequence.{sequence_at}
 use Rattle.clause.specs.Steps.{start_at, kept_of}
 use Rattle.clause.proofs.Starting.{started-at, reads_at}

@@ -33,7 +33,7 @@ use Rattle.directive.specs.Name.{name_at}
 use Rattle.directive.proofs.Ends.{name_at-end}
 use Rattle.reader.specs.declared.Reading.{Reading}
 use Rattle.reader.specs.Line.{opening_c, opening_f, opening, Parsed, parsed, suits, line_answer}
-use Rattle.reader.specs.Calls.{reading_of, line_call, line_within}
+use Rattle.reader.specs.Calls.{reading_of, line_within}
 use Rattle.reader.specs.Laws.{StrictReadingsAreWhole}
 
 -- the opening words end within the text: the trivia after them has a byte

@@ -14,7 +14,6 @@ use Rattle.source.specs.Joining.{joined_text, joined_map}
 use Rattle.clause.specs.declared.ClauseRecord.{ClauseRecord}
 use Rattle.clause.specs.declared.SequenceState.{SequenceState}
 use Rattle.clause.specs.declared.SequenceAnswer.{SequenceAnswer}
-use Rattle.clause.specs.declared.SequenceAnswer.TheVariants as SequenceAnswer
 use Rattle.clause.specs.Clause.{zero_record}
 use Rattle.clause.specs.Sequence.{Sequence}
 use Rattle.clause.specs.Calls.{SequenceCall, counted, sequence_gives}

@@ -8,7 +8,6 @@ use Rattle.clause.specs.declared.ClauseRecord.{ClauseRecord}
 use Rattle.clause.specs.Clause.{zero_record}
 use Rattle.reader.specs.declared.Reading.{Reading}
 use Rattle.reader.specs.declared.LineAnswer.{LineAnswer}
-use Rattle.reader.specs.declared.LineAnswer.TheVariants as LineAnswer
 use Rattle.reader.specs.Line.{Parsed, line_answer}
 
 -- "directive entry, name's joined start and end, number of records, joined place of the unread rest"

@@ -12,13 +12,11 @@ use Rattle.validation.specs.Validation.{fault}
 use Rattle.source.specs.Joining.{joined_text, joined_map}
 use Rattle.source.specs.Calls.{is_short}
 use Rattle.clause.specs.declared.SequenceAnswer.{SequenceAnswer}
-use Rattle.clause.specs.declared.SequenceAnswer.TheVariants as SequenceAnswer
 use Rattle.clause.specs.Sequence.{Sequence}
 use Rattle.clause.specs.Steps.{Started, refused_start, read_on}
 use Rattle.directive.specs.declared.DirectiveName.{DirectiveName}
 use Rattle.reader.specs.declared.Head.{Head}
 use Rattle.reader.specs.declared.LineAnswer.{LineAnswer}
-use Rattle.reader.specs.declared.LineAnswer.TheVariants as LineAnswer
 use Rattle.reader.specs.Line.{Parsed, line_answer}
 
 -- the checks found nothing, or a refusal

@@ -1,6 +1,6 @@
 -- What the check of a text says of a call that admits the text first, and of the text.
 -- Assumes nothing.
-use mathlib.Core.Path.{◌≡◌, refl, sym, ◌∙◌}
+use mathlib.Core.Path.{◌≡◌, refl, sym}
 use mathlib.Core.Bool.{Bool, true, false, cond}
 use mathlib.Core.Option.{Option, some, none}
 use mathlib.Core.List.{List}
@@ -11,7 +11,6 @@ use lib.Dec.{ltb}
 use borrow.Author.Tests.{ltb-false}
 use Rattle.ascii.specs.Text.{first_high}
 use Rattle.refusal.specs.declared.Refusal.{Refusal}
-use Rattle.refusal.specs.declared.Verdict.{Verdict}
 use Rattle.refusal.specs.declared.Verdict.TheVariants.{Fine, Bad}
 use Rattle.refusal.specs.declared.Reason.TheVariants.{TooLong, HighByte}
 use Rattle.refusal.specs.Answer.{Answer, refused, refused_by, unless_fault, admitted, max_length}

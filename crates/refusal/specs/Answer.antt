@@ -1,5 +1,5 @@
 -- What a call answers: what it gives, or one refusal of the table with its place.
-use Rattle.std.specs.Prelude.{ℕ, Bool, true, false, cond, List, [], length, ltb}
+use Rattle.std.specs.Prelude.{ℕ, cond, List, [], length, ltb}
 use Rattle.std.proofs.Math.Option.{Option, some, none}
 use Rattle.ascii.specs.Text.{first_high, padded}
 use Rattle.refusal.specs.declared.Refusal.{Refusal}

@@ -5,11 +5,8 @@ use Rattle.lexer.specs.declared.Language.{Language}
 use Rattle.lexer.specs.declared.Prefix.{Prefix}
 use Rattle.source.specs.declared.Span.{Span}
 use Rattle.source.specs.declared.JoinAnswer.{JoinAnswer}
-use Rattle.source.specs.declared.JoinAnswer.TheVariants as JoinAnswer
 use Rattle.source.specs.declared.SpanAnswer.{SpanAnswer}
-use Rattle.source.specs.declared.SpanAnswer.TheVariants as SpanAnswer
 use Rattle.source.specs.declared.CopyAnswer.{CopyAnswer}
-use Rattle.source.specs.declared.CopyAnswer.TheVariants as CopyAnswer
 use Rattle.validation.specs.Validation.{fault}
 use Rattle.source.specs.Joining.{joined_text, joined_map, collapsed}
 

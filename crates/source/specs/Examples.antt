@@ -1,8 +1,8 @@
 -- Examples of joining, validation, map-back and content copy, evaluated.
-use Rattle.std.specs.Prelude.{ℕ, ◌≡◌, refl, List, [], ◌∷◌, ◌++◌}
+use Rattle.std.specs.Prelude.{◌≡◌, refl, [], ◌∷◌, ◌++◌}
 use Rattle.std.proofs.Math.Option.{some, none}
 use Rattle.ascii.specs.Text.{bytes, leading, begins, first_high}
-use Rattle.refusal.specs.Answer.{Answer, given, refused}
+use Rattle.refusal.specs.Answer.{given, refused}
 use Rattle.lexer.specs.declared.Language.TheVariants.{C, FortranFree}
 use Rattle.lexer.specs.declared.Prefix.TheVariants.{Omp}
 use Rattle.lexer.specs.Continuation.{break_c, break_f, sentinel, sentinel_ended, sentinel_any, eol, comment_f, marker, lead}

@@ -1,7 +1,7 @@
 -- `parse_sequence` meets its contract: the clauses from the start of the text on, by an index of its own.
-use Rattle.std.proofs.Common.{◌≡◌, ◌∙◌, ap, length}
+use Rattle.std.proofs.Common.{◌∙◌, ap, length}
 use Rattle.rulebook.proofs.Indexes.{fresh}
-use Rattle.clause.specs.Steps.{start_of, read_on, settled, Started}
+use Rattle.clause.specs.Steps.{read_on, settled}
 use Rattle.clause.proofs.Starting.{started_of, call-is}
 use Rattle.clause.proofs.parse_sequence.Goals as goal
 

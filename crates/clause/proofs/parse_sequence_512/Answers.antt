@@ -1,7 +1,7 @@
 -- `parse_sequence_512` meets its contract: the same into an array of its own, of which so many slots are used.
 use Rattle.std.proofs.Common.{◌≡◌, ◌∙◌, ap, arith, length, min}
 use Rattle.rulebook.proofs.Indexes.{fresh}
-use Rattle.clause.specs.Steps.{start_of, read_on, settled, Started}
+use Rattle.clause.specs.Steps.{read_on, settled}
 use Rattle.clause.proofs.Starting.{started-more, into-is}
 use Rattle.clause.proofs.parse_sequence_512.Goals as goal
 

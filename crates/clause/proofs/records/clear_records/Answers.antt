@@ -1,5 +1,5 @@
 -- `clear_records` meets its contract: once all slots from the place on are zeroed.
-use Rattle.std.proofs.Common.{◌≡◌, ◌∙◌, ◌-◌, arith}
+use Rattle.std.proofs.Common.{◌∙◌, ◌-◌, arith}
 use Rattle.clause.proofs.Filling.{wiped-all}
 use Rattle.clause.proofs.records.clear_records.Goals as goal
 

@@ -1,7 +1,7 @@
 -- `fill_records` meets its contract: each turn is a step of the definition, and once a step does not go on the zeroed rest is what all later ones give.
 use Rattle.std.proofs.Common.{◌≡◌, ◌∙◌, ◌+◌, ◌<◌, ◌≤◌, refl, ap, length, arith, add-one}
 use Rattle.clause.specs.Steps.{next_state, state_at}
-use Rattle.clause.proofs.Filling.{at-start, at_next, length-filled}
+use Rattle.clause.proofs.Filling.{at-start, at_next}
 use Rattle.clause.proofs.Properness.{proper-at}
 use Rattle.clause.proofs.Stopping.{stop_at, stop-less, stop-next, stopped-state, stopped-records}
 use Rattle.clause.proofs.records.fill_records.Goals as goal

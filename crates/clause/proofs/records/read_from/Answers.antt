@@ -1,5 +1,5 @@
 -- `read_from` meets its contract: the state behind the last slot says the answer, and a refusal zeroes all slots.
-use Rattle.std.proofs.Common.{◌≡◌, ◌∙◌, ap, length}
+use Rattle.std.proofs.Common.{◌∙◌, ap, length}
 use Rattle.clause.specs.Steps.{next_state, answer_of}
 use Rattle.clause.proofs.Properness.{proper-at}
 use Rattle.clause.proofs.Sequencing.{settles}

@@ -1,7 +1,6 @@
 -- `directive::names::may_grow` meets its contract: the candidate is a name, or some name agrees with it as it stands, or else without blanks.
 -- Assumes nothing.
 use mathlib.Core.Path.{sym, ap, ◌∙◌}
-use mathlib.Core.Bool.{true, false}
 use borrow.Author.Rules.{rules}
 use borrow.Author.Tests.{not-true, not-false}
 use Rattle.ascii.specs.Text.{found_at}

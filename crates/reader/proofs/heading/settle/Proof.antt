@@ -1,7 +1,6 @@
 -- `reader::heading::settle` meets its contract: each call says its part.
 -- Assumes nothing.
 use native.Mathlib.Omega.{arith}
-use lib.ListN.{length}
 use borrow.Author.Rules.{rules}
 use Rattle.reader.proofs.Headed.{kept_less}
 use Rattle.reader.proofs.heading.settle.Statement.{statement}

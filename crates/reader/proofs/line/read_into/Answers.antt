@@ -1,5 +1,5 @@
 -- `read_into` meets its contract: the head, then the clauses behind it, then what of text and map is kept; that all of it is the definition's is `line-settles`.
-use Rattle.std.proofs.Common.{◌≡◌, ◌∙◌, ℕ, List, ap, length, take}
+use Rattle.std.proofs.Common.{◌∙◌, ℕ, List, ap, length, take}
 use Rattle.rulebook.proofs.Indexes.{fresh}
 use Rattle.clause.specs.declared.SequenceState.{SequenceState}
 use Rattle.clause.specs.Steps.{settled, read_on}
