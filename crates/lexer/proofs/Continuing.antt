@@ -1,18 +1,19 @@
 -- What the definitions of Fortran's continuation say at a place of a text, in the places that the code reads at.
 -- Assumes nothing.
 use mathlib.Core.Path.{◌≡◌, refl}
-use mathlib.Core.Bool.{Bool, true, false, cond}
+use mathlib.Core.Bool.{Bool, true, false, cond, ◌&&◌}
 use mathlib.Core.List.{List}
-use Prim.Native.Nat.{ℕ, ◌+◌, ◌-◌, ◌<◌}
+use Prim.Native.Nat.{ℕ, ◌+◌, ◌-◌, ◌<◌, ◌≤◌}
 use native.Mathlib.Nat.{add-zero, add_assoc}
 use native.Mathlib.Omega.{arith}
-use lib.ListN.{drop, get_or}
+use lib.ListN.{length, drop, get_or, get_or-eq_default}
 use lib.Seq.{get_or-drop, drop-drop}
-use lib.Dec.{eqb, ltb}
-use borrow.Author.Tests.{eqb-true}
-use Rattle.ascii.specs.Ascii.{is_blank}
+use lib.Dec.{eqb, leb, ltb}
+use borrow.Author.Tests.{eqb-true, leb-true, leb-false}
+use Rattle.ascii.specs.Ascii.{is_blank, is_eol}
 use Rattle.ascii.specs.Text.{leading}
-use Rattle.lexer.specs.Continuation.{sentinel_any, eol, comment_f, marker, lead, break_c, break_f}
+use Rattle.ascii.proofs.Flags.{or-none, by_cases}
+use Rattle.lexer.specs.Continuation.{sentinel_any, eol, comment_f, marker, lead, ended, tailed, break_c, break_f, Unended}
 
 module _ (s : List ℕ) (at : ℕ) where
   pub marker-at : (end : ℕ) → end ≡ at + leading is_blank (drop at s) → marker (drop at s) ≡ cond (eqb (get_or s end 0) 38) (end - at + 1) 0
@@ -47,3 +48,45 @@ one-break xs = go (eqb (get_or xs 0 0) 92) refl
     go : (b : Bool) → eqb (get_or xs 0 0) 92 ≡ b → 0 < break_c xs → break_f xs ≡ 0
     go false e h = absurd (omega (arith, rw e at h))
     go true e h = simp (eqb-true (get_or xs 0 0) 92 e)
+
+-- no line ends behind a text
+pub unended-end : (xs : List ℕ) → Unended xs (length xs)
+unended-end xs = record { none = λ j h. rw (get_or-eq_default xs 0 h) }
+
+-- one byte more that ends no line
+pub unended-more : (xs : List ℕ) (i : ℕ) → 0 < i → Unended xs i → is_eol (get_or xs (i - 1) 0) ≡ false → Unended xs (i - 1)
+unended-more xs i p u e =
+    record {
+      none = λ j h. by_cases (leb i j) (λ t. u.none j (leb-true i j t)) (λ f. let k : j ≡ i - 1 = omega (arith, leb-false i j f) in rw k e);
+    }
+
+-- where no line ends from a place on, there is no continuation from there on
+module _ (xs : List ℕ) (from : ℕ) (u : Unended xs from) where
+  eol-none : (i : ℕ) → from ≤ i → eol (drop i xs) ≡ 0
+  unfolding eol
+  eol-none i h =
+      let b = or-none (eqb (get_or xs i 0) 10) (eqb (get_or xs i 0) 13) (u.none i h) in
+      simp (get_or-drop, add-zero, b.0, b.1)
+
+  ended-none : (at n : ℕ) → from ≤ at → ended (drop at xs) n ≡ 0
+  ended-none at n h = rw (drop-drop n at xs, eol-none (at + n) (omega arith)) refl
+
+  pub break-f-none : (at : ℕ) → from ≤ at → break_f (drop at xs) ≡ 0
+  unfolding break_f
+  break-f-none at h = go (eqb (get_or (drop at xs) 0 0) 38) (tailed (drop at xs) + comment_f (drop (tailed (drop at xs)) (drop at xs)))
+    where
+      go : (b : Bool) (n : ℕ) → cond b (ended (drop at xs) n) 0 ≡ 0
+      go true n = ended-none at n h
+      go false n = refl
+
+  pub break_c-none : (at : ℕ) → from ≤ at → break_c (drop at xs) ≡ 0
+  unfolding break_c
+  break_c-none at h =
+      let b = or-none (eqb (get_or xs (at + 1) 0) 10) (eqb (get_or xs (at + 1) 0) 13) (u.none (at + 1) (omega arith)) in
+      let d = or-none (eqb (get_or xs (at + 2) 0) 10) (eqb (get_or xs (at + 2) 0) 13) (u.none (at + 2) (omega arith)) in
+      simp (get_or-drop, b.0, d.0) (go (eqb (get_or xs (at + 0) 0) 92) (eqb (get_or xs (at + 1) 0) 13))
+    where
+      go : (b c : Bool) → ◌≡◌ {A = ℕ} (cond (b && false) 2 (cond (b && c && false) 3 0)) 0
+      go true true = refl
+      go true false = refl
+      go false c = refl

@@ -1,5 +1,5 @@
 -- Continuations of a physical line, and the sentinels of Fortran.
-use Rattle.std.specs.Prelude.{ℕ, ◌+◌, max, Bool, cond, not, ◌&&◌, ◌||◌, List, length, drop, get_or, eqb, ltb}
+use Rattle.std.specs.Prelude.{ℕ, ◌+◌, ◌≤◌, max, Bool, false, cond, not, ◌&&◌, ◌||◌, ◌≡◌, List, length, drop, get_or, eqb, ltb}
 use Rattle.ascii.specs.Ascii.{is_blank, is_eol, fold}
 use Rattle.ascii.specs.Text.{bytes, starts, leading, begins}
 use Rattle.lexer.specs.declared.Language.{Language}
@@ -76,3 +76,7 @@ tailed xs = 1 + leading is_blank (drop 1 xs)
 -- `&`, blanks, a comment, the end of line, and what goes of the next line
 unfoldable pub break_f : List ℕ → ℕ
 break_f xs = cond (starts 38 xs) (ended xs (tailed xs + comment_f (drop (tailed xs) xs))) 0
+
+-- from a place on no byte ends a line, which is a matter of speed
+pub record Unended (xs : List ℕ) (from : ℕ) : Type 0 where
+  pub none : (j : ℕ) → from ≤ j → is_eol (get_or xs j 0) ≡ false

@@ -1,7 +1,7 @@
 // Continuations of a physical line: the break of C, and Fortran's `&` with what goes of the next line.
 ghost use Rattle.std.specs.Prelude.{◌≡◌, true, ◌+◌, ◌≤◌, length, drop};
 ghost use Rattle.ascii.specs.Text.{begins, comparing};
-ghost use Rattle.lexer.specs.Continuation.{prefix_bytes, break_c, marked as is_marked, sentinel as sentinel_of, opening_sentinel, is_boundary, sentinel_ended, sentinel_any, eol as eol_of, comment_f, marker as marker_of, lead as lead_of, break_f};
+ghost use Rattle.lexer.specs.Continuation.{prefix_bytes, break_c, marked as is_marked, sentinel as sentinel_of, opening_sentinel, is_boundary, sentinel_ended, sentinel_any, eol as eol_of, comment_f, marker as marker_of, lead as lead_of, break_f, Unended};
 
 use super::{Language, Prefix};
 use ascii::ByteSet;
@@ -184,4 +184,31 @@ pub fn break_f(text: &[u8], at: usize) -> usize
     }
     let next = stop + n;
     next - at + lead(text, next)
+}
+
+// A place from which on no line ends: behind the last end of line.
+pub fn last_end(text: &[u8]) -> usize
+    ensures { Unended text.now result }
+{
+    let mut i = text.len();
+    while 0 < i {
+        if ascii::class::is_eol(text[i - 1]) {
+            return i;
+        }
+        i -= 1;
+    }
+    i
+}
+
+// A place from which on no line ends, by one that is known. It is sought once, where the first `&` stands: where the text ends in an end of line the
+// search is over at once.
+pub fn ends_before(text: &[u8], at: usize, ends: usize) -> usize
+    requires { Unended text.now ends }
+    ensures { Unended text.now result }
+{
+    let sought = (ascii::byte_at(text, at) == 38) & (ends == text.len());
+    if sought {
+        return last_end(text);
+    }
+    ends
 }

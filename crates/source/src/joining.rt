@@ -1,6 +1,7 @@
 // Joining: each continuation goes, every other byte is kept with its physical place.
 ghost use Rattle.std.specs.Prelude.{◌≡◌, ◌+◌, ◌<◌, ◌≤◌, length, take, drop};
 ghost use Rattle.refusal.specs.Answer.{max_length};
+ghost use Rattle.lexer.specs.Continuation.{Unended};
 ghost use Rattle.source.specs.Joining.{cut_of, joined_text, joined_map, any_cut, collapsed};
 
 use crate::runs;
@@ -32,6 +33,42 @@ fn any_cut_at(text: &[u8], at: usize) -> usize
     continuation::break_f(text, at)
 }
 
+// The same where no line ends from a place on: there is no continuation from there on, so that the comments behind a row of `&` are not walked to the end
+// of the text for each of them.
+fn cut_before(language: Language, text: &[u8], at: usize, ends: usize) -> usize
+    requires { (at ≤ length text.now) × Unended text.now ends }
+    ensures value { result ≡ cut_of language (drop at text.now) }
+    ensures result_in_bounds { at + result ≤ length text.now }
+{
+    if at >= ends {
+        return 0;
+    }
+    cut_at(language, text, at)
+}
+
+// The same of either language.
+fn any_cut_before(text: &[u8], at: usize, ends: usize) -> usize
+    requires { (at ≤ length text.now) × Unended text.now ends }
+    ensures value { result ≡ any_cut (drop at text.now) }
+    ensures result_in_bounds { at + result ≤ length text.now }
+{
+    if ends <= at {
+        return 0;
+    }
+    any_cut_at(text, at)
+}
+
+// A place from which on no line ends; in C, where a continuation is told by two bytes, the line's end.
+fn ends_of(language: Language, line: &[u8]) -> usize
+    ensures { Unended line.now result }
+{
+    match language {
+        Language::C => line.len(),
+        Language::FortranFree => continuation::last_end(line),
+        Language::FortranFixed => continuation::last_end(line),
+    }
+}
+
 // Joins a line that fits, once over: the text and the map stand at the front of their slots, and the text's length is returned.
 pub fn join_into(language: Language, line: &[u8], text: &mut [u8], map: &mut [u16]) -> usize
     requires line_len_bound { length line.now ≤ max_length }
@@ -44,8 +81,9 @@ pub fn join_into(language: Language, line: &[u8], text: &mut [u8], map: &mut [u1
 {
     let mut i = 0;
     let mut k = 0;
+    let ends = ends_of(language, line);
     while i < line.len() {
-        let gone = cut_at(language, line, i);
+        let gone = cut_before(language, line, i, ends);
         let stays = gone == 0;
         if stays {
             text[k] = line[i];
@@ -69,8 +107,10 @@ pub fn copy_into(content: &[u8], copy: &mut [u8]) -> usize
 {
     let mut i = 0;
     let mut k = 0;
+    let mut ends = content.len();
     while i < content.len() {
-        let gone = any_cut_at(content, i);
+        ends = continuation::ends_before(content, i, ends);
+        let gone = any_cut_before(content, i, ends);
         if gone == 0 {
             let end = runs::plain_end(content, i + 1);
             k = ascii::copy_part(content, i, end, copy, k);

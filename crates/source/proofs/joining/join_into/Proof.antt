@@ -7,6 +7,7 @@ use native.Mathlib.Numerals.{add-one}
 use native.Mathlib.Omega.{arith}
 use lib.ListN.{length, take, drop, length-set}
 use lib.Seq.{length-take-le, take-suc-set}
+use borrow.Author.Rules.{rules}
 use borrow.Author.Tests.{eqb-true, eqb-false}
 use Rattle.ascii.proofs.Slots.{pushed}
 use Rattle.source.specs.Joining.{kept_from, cut_of, byte_of, place_of, joined_text, joined_map}
@@ -15,7 +16,7 @@ use Rattle.source.proofs.joining.join_into.Statement.{statement}
 use Rattle.source.proofs.joining.join_into.Tie as tie
 
 abbrev invariant-loop-i : tie.invariant-loop-i
-invariant-loop-i language line text₀ map₀ i₀ k₀ text places i k =
+invariant-loop-i language line text₀ map₀ i₀ k₀ ends text places i k =
     (k ≤ i)
     × (i ≤ length line)
     × (length text ≡ length text₀)
@@ -24,12 +25,12 @@ invariant-loop-i language line text₀ map₀ i₀ k₀ text places i k =
     × (take k places ++ map place_of (kept_from (cut_of language) 0 i (drop i line)) ≡ map place_of (kept_from (cut_of language) 0 0 line))
 
 abbrev decreases-loop-i : tie.decreases-loop-i
-decreases-loop-i language line text₀ map₀ i₀ k₀ text places i k = length line - i
+decreases-loop-i language line text₀ map₀ i₀ k₀ ends text places i k = length line - i
 
 loop-again : tie.Need-loop-i-preserved-then-stays invariant-loop-i decreases-loop-i
 loop-again c =
     let l : tie.In-loop-i invariant-loop-i decreases-loop-i = c.before.before.before in
-    let gone = c.cut_at-gone in
+    let gone = c.before.before.cut_before-gone in
     let none = sym (eqb-true gone.result 0 c.if-stays.true-raw) ∙ gone.ensures.0 in
     let a : l.loop-i.k < length l.loop-i.text = omega arith in
     let b : l.loop-i.k < length l.loop-i.map = omega arith in (
@@ -44,7 +45,7 @@ loop-again c =
 loop-again-2 : tie.Need-loop-i-preserved invariant-loop-i decreases-loop-i
 loop-again-2 c =
     let l : tie.In-loop-i invariant-loop-i decreases-loop-i = c.before.before in
-    let gone = c.cut_at-gone in
+    let gone = c.before.cut_before-gone in
     let some = eqb-false gone.result 0 c.if-stays.false-raw in (
       omega arith,
       omega arith,
@@ -69,8 +70,9 @@ join_into_spec =
     (tie.spec
     invariant-loop-i
     decreases-loop-i
+    (λ c κs. search rules)
     (λ c. (omega arith, omega arith, refl, refl, refl, refl))
-    (λ c κs. omega arith)
+    (λ c κs. (omega arith, c.ends_of-ends.ensures))
     (λ c. omega arith)
     (λ c. omega arith)
     (λ c. omega arith)
@@ -81,7 +83,7 @@ join_into_spec =
     (λ c. omega arith)
     loop-again
     (λ c. omega arith)
-    (λ c. omega (arith, eqb-false c.cut_at-gone.result 0 c.if-stays.false-raw))
+    (λ c. omega (arith, eqb-false c.before.cut_before-gone.result 0 c.if-stays.false-raw))
     loop-again-2
     (λ c. omega arith)
     (λ c. omega arith)
