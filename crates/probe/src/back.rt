@@ -2,6 +2,7 @@
 use crate::print::Out;
 use crate::words::{ends, list_at, nth, number_at};
 use source::SpanAnswer;
+use std::io;
 
 #[derive(Clone, Copy)]
 pub struct BackRequest {
@@ -23,7 +24,7 @@ fn request(line: &[u8]) -> BackRequest {
     }
 }
 
-pub fn answer(line: &[u8], map: &mut [u16], buffer: &mut [u8], out: Out) -> Out {
+pub fn answer(line: &[u8], map: &mut [u16], buffer: &mut [u8], out: Out) -> io::Result<Out> {
     let asked = request(line);
     let word = nth(line, 4);
     let size = list_at(line, word, map);
@@ -34,11 +35,11 @@ pub fn answer(line: &[u8], map: &mut [u16], buffer: &mut [u8], out: Out) -> Out 
     answer_back(&map[0..n], asked, buffer, out)
 }
 
-fn answer_back(map: &[u16], asked: BackRequest, buffer: &mut [u8], out: Out) -> Out {
+fn answer_back(map: &[u16], asked: BackRequest, buffer: &mut [u8], out: Out) -> io::Result<Out> {
     match source::map_back(map, asked.length, asked.start, asked.end) {
         SpanAnswer::Found(span) => out
-            .ok(buffer)
-            .and_number(buffer, span.start)
+            .ok(buffer)?
+            .and_number(buffer, span.start)?
             .and_number(buffer, span.end),
         SpanAnswer::Refused(refused) => out.refused(buffer, refused),
     }

@@ -2,8 +2,9 @@
 use crate::print::Out;
 use crate::words::only_bytes;
 use rulebook::BookAnswer;
+use std::io;
 
-pub fn answer(line: &[u8], book: &mut [u8], buffer: &mut [u8], out: Out) -> Out {
+pub fn answer(line: &[u8], book: &mut [u8], buffer: &mut [u8], out: Out) -> io::Result<Out> {
     let size = only_bytes(line, book);
     let n = size.value;
     if !size.good {
@@ -12,7 +13,7 @@ pub fn answer(line: &[u8], book: &mut [u8], buffer: &mut [u8], out: Out) -> Out 
     answer_book(&book[0..n], buffer, out)
 }
 
-fn answer_book(book: &[u8], buffer: &mut [u8], out: Out) -> Out {
+fn answer_book(book: &[u8], buffer: &mut [u8], out: Out) -> io::Result<Out> {
     match rulebook::check_book(book) {
         BookAnswer::Valid => out.ok(buffer),
         BookAnswer::Refused(refused) => out.refused(buffer, refused),

@@ -2,6 +2,7 @@
 use crate::print::Out;
 use crate::words::{part, same, word_at};
 use crate::{back, book, copy, join, line, sequence, split, trim};
+use std::io;
 
 #[derive(Clone, Copy)]
 pub enum Call {
@@ -53,7 +54,7 @@ fn answer_call(
     numbers: &mut [u16],
     buffer: &mut [u8],
     out: Out,
-) -> Out {
+) -> io::Result<Out> {
     let name = word_at(line, 0);
     let call = call_of(part(line, name));
     match call {
@@ -78,6 +79,6 @@ pub fn answer(
     numbers: &mut [u16],
     buffer: &mut [u8],
     out: Out,
-) -> Out {
-    answer_call(line, first, second, bytes, numbers, buffer, out).byte(buffer, b'\n')
+) -> io::Result<Out> {
+    answer_call(line, first, second, bytes, numbers, buffer, out)?.byte(buffer, b'\n')
 }

@@ -3,6 +3,7 @@ use crate::lent::fill_bytes;
 use crate::print::Out;
 use crate::words::{ends, hex_at, nth, slots_at};
 use source::CopyAnswer;
+use std::io;
 
 pub fn answer(
     line: &[u8],
@@ -10,7 +11,7 @@ pub fn answer(
     copy: &mut [u8],
     buffer: &mut [u8],
     out: Out,
-) -> Out {
+) -> io::Result<Out> {
     let word = nth(line, 2);
     let size = hex_at(line, word, content);
     let asked = slots_at(line, nth(line, 1), copy.len());
@@ -22,15 +23,15 @@ pub fn answer(
     answer_copy(&content[0..n], &mut copy[0..slots], buffer, out)
 }
 
-fn answer_copy(content: &[u8], copy: &mut [u8], buffer: &mut [u8], out: Out) -> Out {
+fn answer_copy(content: &[u8], copy: &mut [u8], buffer: &mut [u8], out: Out) -> io::Result<Out> {
     fill_bytes(copy);
     let answer = source::copy_content(content, copy);
-    print_copy(answer, buffer, out).and_bytes(buffer, copy)
+    print_copy(answer, buffer, out)?.and_bytes(buffer, copy)
 }
 
-fn print_copy(answer: CopyAnswer, buffer: &mut [u8], out: Out) -> Out {
+fn print_copy(answer: CopyAnswer, buffer: &mut [u8], out: Out) -> io::Result<Out> {
     match answer {
-        CopyAnswer::Copied(length) => out.ok(buffer).and_number(buffer, length),
+        CopyAnswer::Copied(length) => out.ok(buffer)?.and_number(buffer, length),
         CopyAnswer::Refused(refused) => out.refused(buffer, refused),
     }
 }

@@ -4,6 +4,7 @@ use crate::lent::{fill_bytes, fill_numbers};
 use crate::print::Out;
 use crate::words::{ends, hex_at, nth};
 use source::JoinAnswer;
+use std::io;
 
 pub fn answer(
     line: &[u8],
@@ -12,7 +13,7 @@ pub fn answer(
     map: &mut [u16],
     buffer: &mut [u8],
     out: Out,
-) -> Out {
+) -> io::Result<Out> {
     let word = nth(line, 5);
     let size = hex_at(line, word, source);
     let form = form_of(line, text.len(), map.len());
@@ -33,18 +34,18 @@ fn answer_join(
     map: &mut [u16],
     buffer: &mut [u8],
     out: Out,
-) -> Out {
+) -> io::Result<Out> {
     fill_bytes(text);
     fill_numbers(map);
     let answer = source::join_line(form.language(), form.prefix(), source, text, map);
-    print_join(answer, buffer, out)
-        .and_bytes(buffer, text)
+    print_join(answer, buffer, out)?
+        .and_bytes(buffer, text)?
         .and_numbers(buffer, map)
 }
 
-fn print_join(answer: JoinAnswer, buffer: &mut [u8], out: Out) -> Out {
+fn print_join(answer: JoinAnswer, buffer: &mut [u8], out: Out) -> io::Result<Out> {
     match answer {
-        JoinAnswer::Joined(length) => out.ok(buffer).and_number(buffer, length),
+        JoinAnswer::Joined(length) => out.ok(buffer)?.and_number(buffer, length),
         JoinAnswer::Refused(refused) => out.refused(buffer, refused),
     }
 }

@@ -7,6 +7,7 @@ use crate::print::Out;
 use crate::records::{and_records, lent_records};
 use crate::words::{ends, nth, slots_at, two_at};
 use reader::{Line512, LineAnswer, Reading};
+use std::io;
 
 pub fn answer(
     line: &[u8],
@@ -16,7 +17,7 @@ pub fn answer(
     map: &mut [u16],
     buffer: &mut [u8],
     out: Out,
-) -> Out {
+) -> io::Result<Out> {
     let records = slots_at(line, nth(line, 5), 512);
     let last = nth(line, 7);
     let sizes = two_at(line, nth(line, 6), last, book, source);
@@ -46,7 +47,7 @@ fn answer_form(
     map: &mut [u16],
     buffer: &mut [u8],
     out: Out,
-) -> Out
+) -> io::Result<Out>
     requires { records ≤ 512 }
 {
     let form = form_of(line, text.len(), map.len());
@@ -77,7 +78,7 @@ fn answer_line(
     map: &mut [u16],
     buffer: &mut [u8],
     out: Out,
-) -> Out
+) -> io::Result<Out>
     requires { records ≤ 512 }
 {
     fill_bytes(text);
@@ -102,28 +103,28 @@ fn print_whole(
     records: usize,
     buffer: &mut [u8],
     out: Out,
-) -> Out
+) -> io::Result<Out>
     requires { records ≤ 512 }
 {
     let answer = done.answer;
     let slots = done.records;
-    let listed = print_line(answer, buffer, out)
-        .and_bytes(buffer, text)
-        .and_numbers(buffer, map);
+    let listed = print_line(answer, buffer, out)?
+        .and_bytes(buffer, text)?
+        .and_numbers(buffer, map)?;
     and_records(listed, buffer, slots, records)
 }
 
-fn print_line(answer: LineAnswer, buffer: &mut [u8], out: Out) -> Out {
+fn print_line(answer: LineAnswer, buffer: &mut [u8], out: Out) -> io::Result<Out> {
     match answer {
-        LineAnswer::Read(reading) => print_reading(reading, out.ok(buffer), buffer),
+        LineAnswer::Read(reading) => print_reading(reading, out.ok(buffer)?, buffer),
         LineAnswer::Refused(refused) => out.refused(buffer, refused),
     }
 }
 
-fn print_reading(reading: Reading, out: Out, buffer: &mut [u8]) -> Out {
-    out.and_number(buffer, reading.entry)
-        .and_number(buffer, reading.name_start)
-        .and_number(buffer, reading.name_end)
-        .and_number(buffer, reading.count)
+fn print_reading(reading: Reading, out: Out, buffer: &mut [u8]) -> io::Result<Out> {
+    out.and_number(buffer, reading.entry)?
+        .and_number(buffer, reading.name_start)?
+        .and_number(buffer, reading.name_end)?
+        .and_number(buffer, reading.count)?
         .and_number(buffer, reading.rest)
 }

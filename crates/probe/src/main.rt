@@ -16,8 +16,9 @@ mod split;
 mod trim;
 mod words;
 
-use libc::STDIN_FILENO;
 use print::Out;
+use std::io;
+use std::io::{Read, Stdin, Stdout};
 
 // How much of a request is gathered, and how much of the answers.
 #[derive(Clone, Copy)]
@@ -36,7 +37,7 @@ fn end_request(
     numbers: &mut [u16],
     buffer: &mut [u8],
     out: Out,
-) -> Out {
+) -> io::Result<Out> {
     if len < line.len() {
         calls::answer(&line[0..len], first, second, bytes, numbers, buffer, out)
     } else {
@@ -53,18 +54,18 @@ fn take_byte(
     numbers: &mut [u16],
     buffer: &mut [u8],
     state: State,
-) -> State {
+) -> io::Result<State> {
     let len = state.len;
     let out = state.out;
     if b == b'\n' {
-        let next = end_request(line, len, first, second, bytes, numbers, buffer, out);
-        return State { len: 0, out: next };
+        let next = end_request(line, len, first, second, bytes, numbers, buffer, out)?;
+        return Ok(State { len: 0, out: next });
     }
     if len < line.len() {
         line[len] = b;
-        return State { len: len + 1, out };
+        return Ok(State { len: len + 1, out });
     }
-    State { len, out }
+    Ok(State { len, out })
 }
 
 fn take_chunk(
@@ -76,16 +77,12 @@ fn take_chunk(
     numbers: &mut [u16],
     buffer: &mut [u8],
     state: State,
-) -> State {
+) -> io::Result<State> {
     let mut gathered = state;
-    let mut i = 0;
-    while i < chunk.len() {
-        gathered = take_byte(
-            chunk[i], line, first, second, bytes, numbers, buffer, gathered,
-        );
-        i += 1;
+    for b in chunk {
+        gathered = take_byte(*b, line, first, second, bytes, numbers, buffer, gathered)?;
     }
-    gathered
+    Ok(gathered)
 }
 
 // A last request may lack its line's end.
@@ -97,18 +94,19 @@ fn finish(
     numbers: &mut [u16],
     buffer: &mut [u8],
     state: State,
-) {
+) -> io::Result<()> {
     let len = state.len;
     let out = state.out;
     if len == 0 {
-        out.flush(buffer);
-        return;
+        return out.flush(buffer);
     }
-    end_request(line, len, first, second, bytes, numbers, buffer, out).flush(buffer);
+    end_request(line, len, first, second, bytes, numbers, buffer, out)?.flush(buffer)
 }
 
-// A proved loop has to end, and nothing says that the input does: it counts its turns down from a number that no run uses up.
+// A proved loop has to end, and nothing says that the input does: it has more turns than any run uses up. Where a read fails, what was read before is answered first.
 fn run(
+    mut input: Stdin,
+    output: Stdout,
     chunk: &mut [u8],
     line: &mut [u8],
     first: &mut [u8],
@@ -116,43 +114,48 @@ fn run(
     bytes: &mut [u8],
     numbers: &mut [u16],
     buffer: &mut [u8],
-) {
+) -> io::Result<()> {
     let mut gathered = State {
         len: 0,
-        out: Out { len: 0 },
+        out: Out { len: 0, to: output },
     };
-    let mut turns = u64::MAX;
-    while turns > 0 {
-        let got = libc::read(STDIN_FILENO, chunk);
-        if got <= 0 {
-            finish(line, first, second, bytes, numbers, buffer, gathered);
-            return;
+    let mut end = Ok(());
+    for _ in 0..u64::MAX {
+        match input.read(chunk) {
+            Ok(0) => break,
+            Ok(n) => {
+                gathered = take_chunk(
+                    &chunk[..n],
+                    line,
+                    first,
+                    second,
+                    bytes,
+                    numbers,
+                    buffer,
+                    gathered,
+                )?;
+            }
+            Err(e) => {
+                end = Err(e);
+                break;
+            }
         }
-        let n = io::count(got, chunk);
-        gathered = take_chunk(
-            &chunk[..n],
-            line,
-            first,
-            second,
-            bytes,
-            numbers,
-            buffer,
-            gathered,
-        );
-        turns -= 1;
     }
-    finish(line, first, second, bytes, numbers, buffer, gathered);
+    finish(line, first, second, bytes, numbers, buffer, gathered)?;
+    end
 }
 
-fn main() {
-    let mut chunk = io::large_buffer();
+fn main(rt: HostRuntime) -> io::Result<()> {
+    let mut chunk = [0u8; 65536];
     let mut line = [0u8; 262144];
     let mut first = [0u8; 40000];
     let mut second = [0u8; 40000];
     let mut bytes = [0u8; 20000];
     let mut numbers = [0u16; 20000];
-    let mut buffer = io::large_buffer();
+    let mut buffer = [0u8; 65536];
     run(
+        rt.stdin(),
+        rt.stdout(),
         &mut chunk,
         &mut line,
         &mut first,
@@ -160,5 +163,5 @@ fn main() {
         &mut bytes,
         &mut numbers,
         &mut buffer,
-    );
+    )
 }

@@ -3,6 +3,7 @@ ghost use Rattle.std.specs.Prelude.{◌≤◌};
 
 use crate::print::Out;
 use clause::ClauseRecord;
+use std::io;
 
 // What lent records hold before a call.
 pub fn lent_records() -> [ClauseRecord; 512] {
@@ -64,24 +65,32 @@ fn used_records(records: [ClauseRecord; 512], n: usize) -> usize
     0
 }
 
-fn record_list(out: Out, buffer: &mut [u8], records: [ClauseRecord; 512], n: usize) -> Out
+fn record_list(
+    out: Out,
+    buffer: &mut [u8],
+    records: [ClauseRecord; 512],
+    n: usize,
+) -> io::Result<Out>
     requires { n ≤ 512 }
 {
     let mut next = out;
-    let mut i = 0;
-    while i < n {
+    for i in 0..n {
         let r = records[i];
-        next = next.record(buffer, i, fields(r));
-        i += 1;
+        next = next.record(buffer, i, fields(r))?;
     }
-    next
+    Ok(next)
 }
 
 // The first n records behind what stands before them: up to the last that is not zeroed, then how many follow.
-pub fn and_records(out: Out, buffer: &mut [u8], records: [ClauseRecord; 512], n: usize) -> Out
+pub fn and_records(
+    out: Out,
+    buffer: &mut [u8],
+    records: [ClauseRecord; 512],
+    n: usize,
+) -> io::Result<Out>
     requires { n ≤ 512 }
 {
     let used = used_records(records, n);
-    let listed = record_list(out.bytes(buffer, b" : "), buffer, records, used);
-    listed.byte(buffer, b'+').number(buffer, n - used)
+    let listed = record_list(out.bytes(buffer, b" : ")?, buffer, records, used)?;
+    listed.byte(buffer, b'+')?.number(buffer, n - used)
 }

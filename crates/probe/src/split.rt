@@ -6,6 +6,7 @@ use crate::lent::fill_numbers;
 use crate::print::Out;
 use crate::words::{choice_at, ends, hex_at, nth, slots_at};
 use delimiter::{Separator, SplitAnswer};
+use std::io;
 
 // language: 0 for C, 1 for free form, 2 for fixed form; separator: 0 for the comma, 1 for the colon.
 #[derive(Clone, Copy)]
@@ -33,7 +34,13 @@ fn request(line: &[u8], most: usize) -> SplitRequest
     }
 }
 
-pub fn answer(line: &[u8], text: &mut [u8], items: &mut [u16], buffer: &mut [u8], out: Out) -> Out {
+pub fn answer(
+    line: &[u8],
+    text: &mut [u8],
+    items: &mut [u16],
+    buffer: &mut [u8],
+    out: Out,
+) -> io::Result<Out> {
     let word = nth(line, 5);
     let size = hex_at(line, word, text);
     let asked = request(line, items.len());
@@ -51,12 +58,12 @@ fn answer_split(
     items: &mut [u16],
     buffer: &mut [u8],
     out: Out,
-) -> Out {
+) -> io::Result<Out> {
     fill_numbers(items);
     let language = language_of(asked.language);
     let separator = separator_of(asked.separator);
     let answer = delimiter::split_top_level(text, language, separator, asked.angles, items);
-    print_split(answer, buffer, out).and_numbers(buffer, items)
+    print_split(answer, buffer, out)?.and_numbers(buffer, items)
 }
 
 fn separator_of(number: usize) -> Separator {
@@ -67,9 +74,9 @@ fn separator_of(number: usize) -> Separator {
     }
 }
 
-fn print_split(answer: SplitAnswer, buffer: &mut [u8], out: Out) -> Out {
+fn print_split(answer: SplitAnswer, buffer: &mut [u8], out: Out) -> io::Result<Out> {
     match answer {
-        SplitAnswer::Items(count) => out.ok(buffer).and_number(buffer, count),
+        SplitAnswer::Items(count) => out.ok(buffer)?.and_number(buffer, count),
         SplitAnswer::Refused(refused) => out.refused(buffer, refused),
     }
 }

@@ -7,15 +7,15 @@ use mathlib.Core.Path.{◌≡◌}
 use Rattle.probe.proofs.lent.fill_bytes.Statement.{statement}
 use Rattle.probe.proofs.lent.fill_bytes.Tie as tie
 
-abbrev invariant-loop : tie.invariant-loop
-invariant-loop slots₀ i₀ slots i = (length slots ≡ length slots₀) × (i ≤ length slots₀)
+abbrev invariant-loop-i : tie.invariant-loop-i
+invariant-loop-i slots₀ i₀ slots i = (length slots ≡ length slots₀) × (i ≤ length slots₀)
 
-abbrev decreases-loop : tie.decreases-loop
-decreases-loop slots₀ i₀ slots i = length slots₀ - i
+abbrev decreases-loop-i : tie.decreases-loop-i
+decreases-loop-i slots₀ i₀ slots i = length slots₀ - i
 
-pub fill-bytes-spec : {M : Type 1} → statement M
-fill-bytes-spec =
-    tie.close (tie.spec invariant-loop decreases-loop
+pub fill_bytes_spec : {M : Type 1} → statement M
+fill_bytes_spec =
+    tie.close (tie.spec invariant-loop-i decreases-loop-i
     (λ c. omega arith)
     (λ c. omega arith)
     (λ c. omega arith)

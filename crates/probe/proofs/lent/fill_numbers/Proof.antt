@@ -7,15 +7,15 @@ use mathlib.Core.Path.{◌≡◌}
 use Rattle.probe.proofs.lent.fill_numbers.Statement.{statement}
 use Rattle.probe.proofs.lent.fill_numbers.Tie as tie
 
-abbrev invariant-loop : tie.invariant-loop
-invariant-loop slots₀ i₀ slots i = (length slots ≡ length slots₀) × (i ≤ length slots₀)
+abbrev invariant-loop-i : tie.invariant-loop-i
+invariant-loop-i slots₀ i₀ slots i = (length slots ≡ length slots₀) × (i ≤ length slots₀)
 
-abbrev decreases-loop : tie.decreases-loop
-decreases-loop slots₀ i₀ slots i = length slots₀ - i
+abbrev decreases-loop-i : tie.decreases-loop-i
+decreases-loop-i slots₀ i₀ slots i = length slots₀ - i
 
-pub fill-numbers-spec : {M : Type 1} → statement M
-fill-numbers-spec =
-    tie.close (tie.spec invariant-loop decreases-loop
+pub fill_numbers_spec : {M : Type 1} → statement M
+fill_numbers_spec =
+    tie.close (tie.spec invariant-loop-i decreases-loop-i
     (λ c. omega arith)
     (λ c. omega arith)
     (λ c. omega arith)

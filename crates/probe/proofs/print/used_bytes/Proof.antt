@@ -6,15 +6,15 @@ use Prim.Native.Nat.{◌≤◌}
 use Rattle.probe.proofs.print.used_bytes.Statement.{statement}
 use Rattle.probe.proofs.print.used_bytes.Tie as tie
 
-abbrev invariant-loop : tie.invariant-loop
-invariant-loop slots n₀ n = n ≤ length slots
+abbrev invariant-loop-n : tie.invariant-loop-n
+invariant-loop-n slots n₀ n = n ≤ length slots
 
-abbrev decreases-loop : tie.decreases-loop
-decreases-loop slots n₀ n = n
+abbrev decreases-loop-n : tie.decreases-loop-n
+decreases-loop-n slots n₀ n = n
 
-pub used-bytes-spec : {M : Type 1} → statement M
-used-bytes-spec =
-    tie.close (tie.spec invariant-loop decreases-loop
+pub used_bytes_spec : {M : Type 1} → statement M
+used_bytes_spec =
+    tie.close (tie.spec invariant-loop-n decreases-loop-n
     (λ c. omega arith)
     (λ c. omega arith)
     (λ c. omega arith)

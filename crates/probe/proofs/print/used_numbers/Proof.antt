@@ -6,15 +6,15 @@ use Prim.Native.Nat.{◌≤◌}
 use Rattle.probe.proofs.print.used_numbers.Statement.{statement}
 use Rattle.probe.proofs.print.used_numbers.Tie as tie
 
-abbrev invariant-loop : tie.invariant-loop
-invariant-loop slots n₀ n = n ≤ length slots
+abbrev invariant-loop-n : tie.invariant-loop-n
+invariant-loop-n slots n₀ n = n ≤ length slots
 
-abbrev decreases-loop : tie.decreases-loop
-decreases-loop slots n₀ n = n
+abbrev decreases-loop-n : tie.decreases-loop-n
+decreases-loop-n slots n₀ n = n
 
-pub used-numbers-spec : {M : Type 1} → statement M
-used-numbers-spec =
-    tie.close (tie.spec invariant-loop decreases-loop
+pub used_numbers_spec : {M : Type 1} → statement M
+used_numbers_spec =
+    tie.close (tie.spec invariant-loop-n decreases-loop-n
     (λ c. omega arith)
     (λ c. omega arith)
     (λ c. omega arith)

@@ -6,15 +6,15 @@ use borrow.Author.Rules.{rules}
 use Rattle.probe.proofs.records.used_records.Statement.{statement}
 use Rattle.probe.proofs.records.used_records.Tie as tie
 
-abbrev invariant-loop : tie.invariant-loop
-invariant-loop n records used₀ used = used ≤ n
+abbrev invariant-loop-used : tie.invariant-loop-used
+invariant-loop-used n records used₀ used = used ≤ n
 
-abbrev decreases-loop : tie.decreases-loop
-decreases-loop n records used₀ used = used
+abbrev decreases-loop-used : tie.decreases-loop-used
+decreases-loop-used n records used₀ used = used
 
-pub used-records-spec : {M : Type 1} → statement M
-used-records-spec =
-    tie.close (tie.spec invariant-loop decreases-loop
+pub used_records_spec : {M : Type 1} → statement M
+used_records_spec =
+    tie.close (tie.spec invariant-loop-used decreases-loop-used
     (λ c. omega arith)
     (λ c. omega arith)
     (λ c. omega arith)

@@ -7,15 +7,15 @@ use Rattle.probe.specs.Words.{Within}
 use Rattle.probe.proofs.words.choice.Statement.{statement}
 use Rattle.probe.proofs.words.choice.Tie as tie
 
-abbrev invariant-loop : tie.invariant-loop
-invariant-loop word names name₀ value₀ name value = Within name names × (value ≤ name.start)
+abbrev invariant-loop-name : tie.invariant-loop-name
+invariant-loop-name word names name₀ value₀ name value = Within name names × (value ≤ name.start)
 
-abbrev decreases-loop : tie.decreases-loop
-decreases-loop word names name₀ value₀ name value = length names - name.start
+abbrev decreases-loop-name : tie.decreases-loop-name
+decreases-loop-name word names name₀ value₀ name value = length names - name.start
 
-pub choice-spec : {M : Type 1} → statement M
-choice-spec =
-    tie.close (tie.spec invariant-loop decreases-loop
+pub choice_spec : {M : Type 1} → statement M
+choice_spec =
+    tie.close (tie.spec invariant-loop-name decreases-loop-name
     (λ c κs. omega arith)
     (λ c. omega arith)
     (λ c κs. omega arith)

@@ -6,15 +6,15 @@ use Prim.Native.Nat.{◌≤◌, ◌-◌}
 use Rattle.probe.proofs.words.digits.Statement.{statement}
 use Rattle.probe.proofs.words.digits.Tie as tie
 
-abbrev invariant-loop : tie.invariant-loop
-invariant-loop word most value₀ i₀ value i = (i ≤ length word) × (value ≤ most)
+abbrev invariant-loop-i : tie.invariant-loop-i
+invariant-loop-i word most value₀ i₀ value i = (i ≤ length word) × (value ≤ most)
 
-abbrev decreases-loop : tie.decreases-loop
-decreases-loop word most value₀ i₀ value i = length word - i
+abbrev decreases-loop-i : tie.decreases-loop-i
+decreases-loop-i word most value₀ i₀ value i = length word - i
 
-pub digits-spec : {M : Type 1} → statement M
-digits-spec =
-    tie.close (tie.spec invariant-loop decreases-loop
+pub digits_spec : {M : Type 1} → statement M
+digits_spec =
+    tie.close (tie.spec invariant-loop-i decreases-loop-i
     (λ c. omega arith)
     (λ c. omega arith)
     (λ c κs. omega arith)

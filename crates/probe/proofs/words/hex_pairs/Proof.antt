@@ -7,15 +7,15 @@ use mathlib.Core.Path.{◌≡◌}
 use Rattle.probe.proofs.words.hex_pairs.Statement.{statement}
 use Rattle.probe.proofs.words.hex_pairs.Tie as tie
 
-abbrev invariant-loop : tie.invariant-loop
-invariant-loop word bytes₀ at₀ n₀ bytes at n = (length bytes ≡ length bytes₀) × (at ≤ length word) × (n ≤ length bytes₀)
+abbrev invariant-loop-at : tie.invariant-loop-at
+invariant-loop-at word bytes₀ at₀ n₀ bytes at n = (length bytes ≡ length bytes₀) × (at ≤ length word) × (n ≤ length bytes₀)
 
-abbrev decreases-loop : tie.decreases-loop
-decreases-loop word bytes₀ at₀ n₀ bytes at n = length word - at
+abbrev decreases-loop-at : tie.decreases-loop-at
+decreases-loop-at word bytes₀ at₀ n₀ bytes at n = length word - at
 
-pub hex-pairs-spec : {M : Type 1} → statement M
-hex-pairs-spec =
-    tie.close (tie.spec invariant-loop decreases-loop
+pub hex_pairs_spec : {M : Type 1} → statement M
+hex_pairs_spec =
+    tie.close (tie.spec invariant-loop-at decreases-loop-at
     (λ c. omega arith)
     (λ c. omega arith)
     (λ c. omega arith)

@@ -7,15 +7,15 @@ use mathlib.Core.Path.{◌≡◌}
 use Rattle.probe.proofs.words.list_items.Statement.{statement}
 use Rattle.probe.proofs.words.list_items.Tie as tie
 
-abbrev invariant-loop : tie.invariant-loop
-invariant-loop word numbers₀ at₀ n₀ numbers at n = (length numbers ≡ length numbers₀) × (n ≤ length numbers₀)
+abbrev invariant-loop-at : tie.invariant-loop-at
+invariant-loop-at word numbers₀ at₀ n₀ numbers at n = (length numbers ≡ length numbers₀) × (n ≤ length numbers₀)
 
-abbrev decreases-loop : tie.decreases-loop
-decreases-loop word numbers₀ at₀ n₀ numbers at n = length word + 1 - at
+abbrev decreases-loop-at : tie.decreases-loop-at
+decreases-loop-at word numbers₀ at₀ n₀ numbers at n = length word + 1 - at
 
-pub list-items-spec : {M : Type 1} → statement M
-list-items-spec =
-    tie.close (tie.spec invariant-loop decreases-loop
+pub list_items_spec : {M : Type 1} → statement M
+list_items_spec =
+    tie.close (tie.spec invariant-loop-at decreases-loop-at
     (λ c. omega arith)
     (λ c κs. omega arith)
     (λ c. omega arith)

@@ -6,15 +6,15 @@ use Rattle.probe.specs.Words.{Within}
 use Rattle.probe.proofs.words.nth.Statement.{statement}
 use Rattle.probe.proofs.words.nth.Tie as tie
 
-abbrev invariant-loop : tie.invariant-loop
-invariant-loop line k word₀ i₀ word i = Within word line × (i ≤ k)
+abbrev invariant-loop-i : tie.invariant-loop-i
+invariant-loop-i line k word₀ i₀ word i = Within word line × (i ≤ k)
 
-abbrev decreases-loop : tie.decreases-loop
-decreases-loop line k word₀ i₀ word i = k - i
+abbrev decreases-loop-i : tie.decreases-loop-i
+decreases-loop-i line k word₀ i₀ word i = k - i
 
-pub nth-spec : {M : Type 1} → statement M
-nth-spec =
-    tie.close (tie.spec invariant-loop decreases-loop
+pub nth_spec : {M : Type 1} → statement M
+nth_spec =
+    tie.close (tie.spec invariant-loop-i decreases-loop-i
     (λ c κs. omega arith)
     (λ c. omega arith)
     (λ c κs. omega arith)

@@ -6,15 +6,15 @@ use Prim.Native.Nat.{◌≤◌, ◌-◌}
 use Rattle.probe.proofs.words.same.Statement.{statement}
 use Rattle.probe.proofs.words.same.Tie as tie
 
-abbrev invariant-loop : tie.invariant-loop
-invariant-loop a b i₀ i = i ≤ length a
+abbrev invariant-loop-i : tie.invariant-loop-i
+invariant-loop-i a b i₀ i = i ≤ length a
 
-abbrev decreases-loop : tie.decreases-loop
-decreases-loop a b i₀ i = length a - i
+abbrev decreases-loop-i : tie.decreases-loop-i
+decreases-loop-i a b i₀ i = length a - i
 
 pub same_spec : {M : Type 1} → statement M
 same_spec =
-    tie.close (tie.spec invariant-loop decreases-loop
+    tie.close (tie.spec invariant-loop-i decreases-loop-i
     (λ c. omega arith)
     (λ c. omega arith)
     (λ c. omega arith)
