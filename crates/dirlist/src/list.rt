@@ -3,25 +3,20 @@ ghost use Rattle.std.specs.Prelude.{◌≤◌};
 
 use clause::ClauseRecord;
 use lexer::{Language, Prefix};
-use libc::STDOUT_FILENO;
 use reader::Reading;
 use refusal::Refusal;
+use std::io;
 
-fn words(text: &[u8]) {
-    io::write_all(STDOUT_FILENO, text);
+fn words(rt: &impl Print, text: &[u8]) -> io::Result<()> {
+    rt.write_all(text)
 }
 
-fn number(n: usize) {
-    words(b" ");
-    io::print_decimal(STDOUT_FILENO, n as u64);
+fn number(rt: &impl Print, n: usize) -> io::Result<()> {
+    print!(rt; " {n}")
 }
 
-fn flag(set: bool) {
-    if set {
-        number(1);
-    } else {
-        number(0);
-    }
+fn flag(rt: &impl Print, set: bool) -> io::Result<()> {
+    if set { number(rt, 1) } else { number(rt, 0) }
 }
 
 fn wide(n: u16) -> usize {
@@ -36,24 +31,24 @@ fn physical(map: &[u16], place: usize) -> usize {
     }
 }
 
-fn content(r: ClauseRecord, map: &[u16]) {
+fn content(rt: &impl Print, r: ClauseRecord, map: &[u16]) -> io::Result<()> {
     if r.parenthesized {
-        words(b" paren");
-        number(physical(map, wide(r.content_start)));
-        number(physical(map, wide(r.content_end)));
+        words(rt, b" paren")?;
+        number(rt, physical(map, wide(r.content_start)))?;
+        number(rt, physical(map, wide(r.content_end)))
     } else {
-        words(b" bare 0 0");
+        words(rt, b" bare 0 0")
     }
 }
 
-fn clause(r: ClauseRecord, map: &[u16]) {
-    words(b"clause");
-    number(physical(map, wide(r.name_start)));
-    number(physical(map, wide(r.name_end)));
-    content(r, map);
-    flag(r.preceded);
-    flag(r.trailing);
-    words(b"\n");
+fn clause(rt: &impl Print, r: ClauseRecord, map: &[u16]) -> io::Result<()> {
+    words(rt, b"clause")?;
+    number(rt, physical(map, wide(r.name_start)))?;
+    number(rt, physical(map, wide(r.name_end)))?;
+    content(rt, r, map)?;
+    flag(rt, r.preceded)?;
+    flag(rt, r.trailing)?;
+    words(rt, b"\n")
 }
 
 // There are no more records than slots.
@@ -63,27 +58,36 @@ fn within_slots(count: usize) -> usize
     if count < 512 { count } else { 512 }
 }
 
-fn clauses(records: [ClauseRecord; 512], count: usize, map: &[u16])
+fn clauses(
+    rt: &impl Print,
+    records: [ClauseRecord; 512],
+    count: usize,
+    map: &[u16],
+) -> io::Result<()>
     requires { count ≤ 512 }
 {
-    let mut i = 0;
-    while i < count {
+    for i in 0..count {
         let r = records[i];
-        clause(r, map);
-        i += 1;
+        clause(rt, r, map)?;
     }
+    Ok(())
 }
 
-pub fn reading(read: Reading, records: [ClauseRecord; 512], map: &[u16]) {
-    words(b"name");
-    number(physical(map, read.name_start));
-    number(physical(map, read.name_end));
-    number(read.entry);
-    words(b"\n");
-    clauses(records, within_slots(read.count), map);
-    words(b"rest");
-    number(physical(map, read.rest));
-    words(b"\n");
+pub fn reading(
+    rt: &impl Print,
+    read: Reading,
+    records: [ClauseRecord; 512],
+    map: &[u16],
+) -> io::Result<()> {
+    words(rt, b"name")?;
+    number(rt, physical(map, read.name_start))?;
+    number(rt, physical(map, read.name_end))?;
+    number(rt, read.entry)?;
+    words(rt, b"\n")?;
+    clauses(rt, records, within_slots(read.count), map)?;
+    words(rt, b"rest")?;
+    number(rt, physical(map, read.rest))?;
+    words(rt, b"\n")
 }
 
 // From 7 on a refusal's place is one of the joined text. The refusal zeroed the map, so the line is joined again.
@@ -97,11 +101,17 @@ fn place_of(refused: Refusal, line: &[u8], text: &mut [u8], map: &mut [u16]) -> 
     physical(map, place)
 }
 
-pub fn refused(refused: Refusal, line: &[u8], text: &mut [u8], map: &mut [u16]) {
+pub fn refused(
+    rt: &impl Print,
+    refused: Refusal,
+    line: &[u8],
+    text: &mut [u8],
+    map: &mut [u16],
+) -> io::Result<()> {
     let reason = refused.reason;
     let place = place_of(refused, line, text, map);
-    words(b"refused");
-    number(refusal::number(reason) as usize);
-    number(place);
-    words(b"\n");
+    words(rt, b"refused")?;
+    number(rt, refusal::number(reason) as usize)?;
+    number(rt, place)?;
+    words(rt, b"\n")
 }

@@ -3,24 +3,41 @@
 
 mod list;
 
-ghost use Rattle.std.specs.Prelude.{◌≤◌, length};
+ghost use Rattle.std.specs.Prelude.{◌≤◌, length, IfOk};
 
 use clause::ClauseRecord;
 use lexer::{Language, Prefix};
-use libc::STDIN_FILENO;
 use reader::LineAnswer;
+use std::io::Read;
+use std::rt::Files;
+use std::{fs, io};
+
+// Reads until the buffer is full or the input ends, and returns how many bytes stand at the buffer's start.
+fn read_full<R: Read>(input: &mut R, buffer: &mut [u8]) -> io::Result<usize>
+    ensures { IfOk result (λ n. n ≤ length buffer.old) }
+{
+    let mut done = 0;
+    for _ in 0..u64::MAX {
+        if done == buffer.len() {
+            break;
+        }
+        let n = input.read(&mut buffer[done..])?;
+        if n == 0 {
+            break;
+        }
+        done += n;
+    }
+    Ok(done)
+}
 
 // The book's bytes, none if it can't be opened. One byte more than the longest book is read, to see a book that goes on.
-fn read_book(book: &mut [u8]) -> usize
-    ensures { result ≤ length book.old }
+fn read_book(rt: &impl Files, book: &mut [u8]) -> io::Result<usize>
+    ensures { IfOk result (λ n. n ≤ length book.old) }
 {
-    let file = os::open_read(b"rules.drb");
-    if file < 0 {
-        return 0;
+    match fs::open(rt, "rules.drb") {
+        Ok(mut file) => read_full(&mut file, book),
+        Err(_) => Ok(0),
     }
-    let size = io::read_full(file, book);
-    libc::close(file);
-    size
 }
 
 fn empty_records() -> [ClauseRecord; 512] {
@@ -37,7 +54,13 @@ fn empty_records() -> [ClauseRecord; 512] {
     [empty; 512]
 }
 
-fn print_line(book: &[u8], line: &[u8], text: &mut [u8], map: &mut [u16]) {
+fn print_line(
+    rt: &impl Print,
+    book: &[u8],
+    line: &[u8],
+    text: &mut [u8],
+    map: &mut [u16],
+) -> io::Result<()> {
     let done = reader::read_line_512(
         Language::C,
         Prefix::Omp,
@@ -51,18 +74,18 @@ fn print_line(book: &[u8], line: &[u8], text: &mut [u8], map: &mut [u16]) {
     let answer = done.answer;
     let records = done.records;
     match answer {
-        LineAnswer::Read(reading) => list::reading(reading, records, map),
-        LineAnswer::Refused(refused) => list::refused(refused, line, text, map),
+        LineAnswer::Read(reading) => list::reading(rt, reading, records, map),
+        LineAnswer::Refused(refused) => list::refused(rt, refused, line, text, map),
     }
 }
 
-fn main() {
+fn main(rt: HostRuntime) -> io::Result<()> {
     let mut book = [0u8; 33415];
-    let b = read_book(&mut book);
+    let b = read_book(&rt, &mut book)?;
     // One byte more than the longest line, to see refusal 1.
     let mut line = [0u8; 16385];
-    let n = io::read_full(STDIN_FILENO, &mut line);
+    let n = read_full(&mut rt.stdin(), &mut line)?;
     let mut text = [0u8; 16385];
     let mut map = [0u16; 16386];
-    print_line(&book[0..b], &line[0..n], &mut text, &mut map);
+    print_line(&rt, &book[0..b], &line[0..n], &mut text, &mut map)
 }
