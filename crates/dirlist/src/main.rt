@@ -3,7 +3,8 @@
 
 mod list;
 
-ghost use Rattle.std.specs.Prelude.{◌≤◌, length, IfOk};
+ghost use Rattle.std.specs.Prelude.{◌≤◌, ◌<◌, length, take, IfOk};
+ghost use Rattle.std.specs.Io.KnownBytes.{Consumes, IsAtEnd};
 
 use clause::ClauseRecord;
 use lexer::{Language, Prefix};
@@ -12,18 +13,20 @@ use std::io::Read;
 use std::rt::Files;
 use std::{fs, io};
 
-// Reads until the buffer is full or the input ends, and returns how many bytes stand at the buffer's start.
+// Reads until the buffer is full or the input ends, and returns how many bytes stand at the buffer's start: the input's next ones, and all of them where the buffer has room for more.
 fn read_full<R: Read>(input: &mut R, buffer: &mut [u8]) -> io::Result<usize>
-    ensures { IfOk result (λ n. n ≤ length buffer.old) }
+    ensures bound { IfOk result (λ n. n ≤ length buffer.old) }
+    ensures bytes { IfOk result (λ n. Consumes (R.remaining input.old) (R.remaining input.new) (take n buffer.new)) }
+    ensures whole { IfOk result (λ n. n < length buffer.old → IsAtEnd (R.remaining input.new)) }
 {
     let mut done = 0;
     for _ in 0..u64::MAX {
         if done == buffer.len() {
-            break;
+            return Ok(done);
         }
         let n = input.read(&mut buffer[done..])?;
         if n == 0 {
-            break;
+            return Ok(done);
         }
         done += n;
     }
