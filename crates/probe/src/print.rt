@@ -1,5 +1,6 @@
 // The answers, gathered in a lent buffer that is written to standard output whenever it is full.
-ghost use Rattle.std.specs.Prelude.{◌≤◌, length};
+ghost use Rattle.std.specs.Prelude.{◌≤◌, ◌≡◌, drop, length};
+ghost use Rattle.std.specs.Fmt.{decimal};
 
 use refusal::Refusal;
 use std::io;
@@ -132,17 +133,18 @@ impl Out {
 
 // Puts n's decimal digits at the end of digits, and returns where they start.
 fn decimal(n: usize, digits: &mut [u8; 20]) -> usize
-    ensures { result ≤ 20 }
+    ensures bound { result ≤ 20 }
+    ensures text { drop result digits.new ≡ decimal n }
 {
     let mut rest = n;
-    for i in (1..20).rev() {
+    for k in 0..20 {
+        let i = 19 - k;
         digits[i] = b'0' + (rest % 10) as u8;
         rest /= 10;
         if rest == 0 {
             return i;
         }
     }
-    digits[0] = b'0' + (rest % 10) as u8;
     0
 }
 
