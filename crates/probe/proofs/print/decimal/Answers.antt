@@ -28,11 +28,12 @@ loop-k-preserved c =
     let behind : 20 - (c.loop-k.k + 1) ≡ 19 - c.loop-k.k = omega arith in
     let step = ap (λ l. l ++ drop (20 - c.loop-k.k) c.loop-k.digits) (decimal_step c.loop-k.rest more c.loop-k.invariant.1) in
     let whole = put c.loop-k.digits c.loop-k.k digit c.loop-k-test.true c.loop-k.invariant.2 in
-    let joined = append_assoc (decimal (c.loop-k.rest / 10)) (digit ∷ []) (drop (20 - c.loop-k.k) c.loop-k.digits) in
-    ( c.loop-k.invariant.0 ∙ step ∙ joined ∙ ap (λ l. decimal (c.loop-k.rest / 10) ++ l) (sym whole)
-        ∙ ap (λ i. decimal (c.loop-k.rest / 10) ++ drop i (slice_set c.loop-k.digits (19 - c.loop-k.k) digit)) (sym behind)
-    , omega arith
-    , search rules)
+    let joined = append_assoc (decimal (c.loop-k.rest / 10)) (digit ∷ []) (drop (20 - c.loop-k.k) c.loop-k.digits) in (
+      c.loop-k.invariant.0 ∙ step ∙ joined ∙ ap (λ l. decimal (c.loop-k.rest / 10) ++ l) (sym whole)
+          ∙ ap (λ i. decimal (c.loop-k.rest / 10) ++ drop i (slice_set c.loop-k.digits (19 - c.loop-k.k) digit)) (sym behind),
+      omega arith,
+      search rules,
+    )
 
 pub returns-clause-text : goal.returns-clause-text
 returns-clause-text c =
