@@ -1,7 +1,7 @@
 -- What the definitions of Fortran's continuation say at a place of a text, in the places that the code reads at.
 -- Assumes nothing.
 use mathlib.Core.Path.{◌≡◌, refl}
-use mathlib.Core.Bool.{Bool, true, false, cond, ◌&&◌}
+use mathlib.Core.Bool.{Bool, true, false, cond}
 use mathlib.Core.List.{List}
 use Prim.Native.Nat.{ℕ, ◌+◌, ◌-◌, ◌<◌, ◌≤◌}
 use native.Mathlib.Nat.{add-zero, add_assoc}
@@ -78,15 +78,3 @@ module _ (xs : List ℕ) (from : ℕ) (u : Unended xs from) where
       go : (b : Bool) (n : ℕ) → cond b (ended (drop at xs) n) 0 ≡ 0
       go true n = ended-none at n h
       go false n = refl
-
-  pub break_c-none : (at : ℕ) → from ≤ at → break_c (drop at xs) ≡ 0
-  unfolding break_c
-  break_c-none at h =
-      let b = or-none (eqb (get_or xs (at + 1) 0) 10) (eqb (get_or xs (at + 1) 0) 13) (u.none (at + 1) (omega arith)) in
-      let d = or-none (eqb (get_or xs (at + 2) 0) 10) (eqb (get_or xs (at + 2) 0) 13) (u.none (at + 2) (omega arith)) in
-      simp (get_or-drop, b.0, d.0) (go (eqb (get_or xs (at + 0) 0) 92) (eqb (get_or xs (at + 1) 0) 13))
-    where
-      go : (b c : Bool) → ◌≡◌ {A = ℕ} (cond (b && false) 2 (cond (b && c && false) 3 0)) 0
-      go true true = refl
-      go true false = refl
-      go false c = refl

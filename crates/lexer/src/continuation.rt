@@ -212,3 +212,16 @@ pub fn ends_before(text: &[u8], at: usize, ends: usize) -> usize
     }
     ends
 }
+
+// The same as `break_f` where no line ends from a place on: there is no continuation from there on, so that the comments behind a row of `&` are not
+// walked to the end of the text for each of them.
+pub fn break_f_before(text: &[u8], at: usize, ends: usize) -> usize
+    requires { (at ≤ length text.now) × Unended text.now ends }
+    ensures value { result ≡ break_f (drop at text.now) }
+    ensures result_in_bounds { at + result ≤ length text.now }
+{
+    if ends <= at {
+        return 0;
+    }
+    break_f(text, at)
+}

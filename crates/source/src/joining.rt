@@ -33,17 +33,17 @@ fn any_cut_at(text: &[u8], at: usize) -> usize
     continuation::break_f(text, at)
 }
 
-// The same where no line ends from a place on: there is no continuation from there on, so that the comments behind a row of `&` are not walked to the end
-// of the text for each of them.
+// The same where no line ends from a place on.
 fn cut_before(language: Language, text: &[u8], at: usize, ends: usize) -> usize
     requires { (at ≤ length text.now) × Unended text.now ends }
     ensures value { result ≡ cut_of language (drop at text.now) }
     ensures result_in_bounds { at + result ≤ length text.now }
 {
-    if at >= ends {
-        return 0;
+    match language {
+        Language::C => continuation::break_c(text, at),
+        Language::FortranFree => continuation::break_f_before(text, at, ends),
+        Language::FortranFixed => continuation::break_f_before(text, at, ends),
     }
-    cut_at(language, text, at)
 }
 
 // The same of either language.
@@ -52,13 +52,14 @@ fn any_cut_before(text: &[u8], at: usize, ends: usize) -> usize
     ensures value { result ≡ any_cut (drop at text.now) }
     ensures result_in_bounds { at + result ≤ length text.now }
 {
-    if ends <= at {
-        return 0;
+    let gone = continuation::break_c(text, at);
+    if 0 < gone {
+        return gone;
     }
-    any_cut_at(text, at)
+    continuation::break_f_before(text, at, ends)
 }
 
-// A place from which on no line ends; in C, where a continuation is told by two bytes, the line's end.
+// A place from which on no line ends; in C, where nothing asks for it, the line's end.
 fn ends_of(language: Language, line: &[u8]) -> usize
     ensures { Unended line.now result }
 {
