@@ -33,7 +33,7 @@ fn read_full<R: Read>(input: &mut R, buffer: &mut [u8]) -> io::Result<usize>
     Ok(done)
 }
 
-// The book's bytes, none if it can't be opened. One byte more than the longest book is read, to see a book that goes on.
+// The book's bytes, none if it can't be opened; a read that fails is an error. One byte more than the longest book is read, to see a book that goes on.
 fn read_book(rt: &impl Files, book: &mut [u8]) -> io::Result<usize>
     ensures { IfOk result (λ n. n ≤ length book.old) }
 {
