@@ -2,4 +2,5 @@ pub mod Laws
 pub mod Stack
 pub mod MatchLaws
 pub mod WalkLaws
+pub mod MarkLaws
 pub mod Backslashes

@@ -1,5 +1,6 @@
 pub mod Code
 pub mod Bracket
 pub mod Matching
+pub mod Marks
 pub mod Laws
 pub mod Examples

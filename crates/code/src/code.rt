@@ -31,7 +31,7 @@ fn is_doubled(text: &[u8], at: usize, q: u8) -> bool
 }
 
 // Whether the byte at a place of a literal in q keeps the one after it inside.
-fn hides_next(text: &[u8], at: usize, q: u8, style: CommentStyle) -> bool
+pub fn hides_next(text: &[u8], at: usize, q: u8, style: CommentStyle) -> bool
     requires { at < length text.now }
     ensures { result ≡ hides_next style q (get_or text.now at 0) (get_or text.now (at + 1) 0) }
 {
@@ -115,7 +115,7 @@ fn block_at(text: &[u8], at: usize) -> Piece
     }
 }
 
-fn is_c_like(style: CommentStyle) -> bool
+pub fn is_c_like(style: CommentStyle) -> bool
     ensures { result ≡ is_c_like style }
 {
     match style {
@@ -126,7 +126,7 @@ fn is_c_like(style: CommentStyle) -> bool
     }
 }
 
-fn is_fortran(style: CommentStyle) -> bool
+pub fn is_fortran(style: CommentStyle) -> bool
     ensures { result ≡ is_fortran style }
 {
     match style {

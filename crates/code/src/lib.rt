@@ -3,6 +3,7 @@
 
 pub mod brackets;
 pub mod code;
+pub mod marks;
 pub mod matching;
 pub mod walk;
 
@@ -76,4 +77,22 @@ pub enum Match {
     ClosedAt(usize),
     Unmatched,
     DeepAt(usize),
+}
+
+// Whether nothing is unclosed from a place on, if the place stands in code, inside a literal in `'` or in `"`, in a block comment, in a line comment.
+#[derive(Clone, Copy)]
+pub struct Flags {
+    pub code: bool,
+    pub single: bool,
+    pub double: bool,
+    pub block: bool,
+    pub line: bool,
+}
+
+// The marks of some places, the first in the lowest bit, with the flags of the first place and of the second.
+#[derive(Clone, Copy)]
+pub struct MarkBits {
+    pub bits: u32,
+    pub one: Flags,
+    pub two: Flags,
 }

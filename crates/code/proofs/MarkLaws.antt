@@ -1,0 +1,335 @@
+-- Laws of the marks: what is unclosed from a place on, by what is from the next place and the one after that.
+-- Assumes nothing.
+use mathlib.Core.Path.{◌≡◌, refl, sym, ap, ◌∙◌}
+use mathlib.Core.Bool.{Bool, true, false, cond, not, ◌&&◌, ◌||◌}
+use mathlib.Core.Option.{Option, some, none}
+use mathlib.Core.List.{List, [], ◌∷◌}
+use Prim.Native.Nat.{ℕ, zero, suc, ◌+◌, ◌-◌, ◌*◌, ◌/◌, ◌%◌, ◌^◌, ◌<◌, ◌≤◌}
+use native.Mathlib.Nat.{add-zero, add-suc, suc-add, pow-zero, pow-succ', mul_assoc, div-div-eq-div-mul, div-one}
+use native.Mathlib.Numerals.{add-one}
+use native.Mathlib.Omega.{arith}
+use borrow.Author.Tests.{eqb-true, eqb-false, not-true, not-false}
+use lib.Dec.{eqb}
+use lib.Pow.{pow_pos, pow_mono}
+use lib.ListN.{length, drop, get_or, drop_of_length-le}
+use Rattle.ascii.specs.Ascii.{is_eol}
+use Rattle.ascii.specs.Text.{up_to}
+use Rattle.ascii.proofs.Flags.{and_left, and_right, or-none, by_cases}
+use Rattle.code.specs.declared.CommentStyle.{CommentStyle}
+use Rattle.code.specs.declared.Unclosed.{Unclosed}
+use Rattle.code.specs.declared.Unclosed.TheVariants.{Nothing, Quote, Comment}
+use Rattle.code.specs.declared.Match.{Match}
+use Rattle.code.specs.declared.Match.TheVariants.{Unmatched}
+use Rattle.code.specs.declared.Flags.{Flags}
+use Rattle.code.specs.declared.Piece.TheVariants.{Code, Hidden, OpenQuote, OpenComment}
+use Rattle.code.specs.Code.{Scan, more, has_escapes, hides_next, literal, block_end, quoted, is_c_like, is_fortran, commented, slashed, banged, piece, is_plain, scan_at}
+use Rattle.code.specs.Matching.{match_from, unless_open, matching}
+use Rattle.code.specs.Marks.{is_nothing, clean, ends_clean, quote_clean, block_clean, line_clean, past_end, flags_at, marks_from, Marked, is_dull, dulls}
+use Rattle.code.proofs.WalkLaws.{plain_code}
+use Rattle.code.proofs.Laws.{drop_at, scan-code, scan-hidden, scan-quote, scan-comment, scan-end, literal-both, literal-closed, literal-plain, literal-end, block_closed, block-plain, block_none, slash-block, slash-line, slash-code, bang-line, bang-code, piece_is}
+
+module _ (style : CommentStyle) (s : List ℕ) (i : ℕ) where
+  abbrev ends : Option ℕ → Bool
+  ends = ends_clean style s
+
+  abbrev hides : ℕ → Bool
+  hides q = hides_next style q (get_or s i 0) (get_or s (i + 1) 0)
+
+  abbrev told : Scan → Bool
+  told x = is_nothing x.fault
+
+  -- in a literal
+  pub quote-both : (q : ℕ) → i < length s → hides q ≡ true → quote_clean style s q i ≡ quote_clean style s q (i + 2)
+  quote-both q h e = ap ends (literal-both style q s i h e)
+
+  pub quote-closed : (q : ℕ) → i < length s → hides q ≡ false → eqb (get_or s i 0) q ≡ true → quote_clean style s q i ≡ clean style s (i + 1)
+  quote-closed q h e f = ap ends (literal-closed style q s i h e f)
+
+  pub quote-plain : (q : ℕ) → i < length s → hides q ≡ false → eqb (get_or s i 0) q ≡ false → quote_clean style s q i ≡ quote_clean style s q (i + 1)
+  quote-plain q h e f = ap ends (literal-plain style q s i h e f)
+
+  pub quote-past : (q : ℕ) → length s ≤ i → quote_clean style s q i ≡ false
+  quote-past q h = ap ends (literal-end style q s i h)
+
+  -- in a block comment
+  abbrev closes : Bool
+  closes = eqb (get_or s i 0) 42 && eqb (get_or s (i + 1) 0) 47
+
+  pub block-over : i < length s → closes ≡ true → block_clean style s i ≡ clean style s (i + 2)
+  block-over h e = ap ends (block_closed s i h e)
+
+  pub block_goes : i < length s → closes ≡ false → block_clean style s i ≡ block_clean style s (i + 1)
+  block_goes h e = ap ends (block-plain s i h e)
+
+  pub block-past : length s ≤ i → block_clean style s i ≡ false
+  block-past h = ap ends (block_none s i h)
+
+  -- in a line comment
+  pub line-over : i < length s → is_eol (get_or s i 0) ≡ true → line_clean style s i ≡ clean style s (i + 1)
+  unfolding up_to
+  line-over h e = rw (drop_at s i h, e) refl
+
+  pub line-goes : i < length s → is_eol (get_or s i 0) ≡ false → line_clean style s i ≡ line_clean style s (i + 1)
+  unfolding up_to
+  line-goes h e = rw (drop_at s i h, e) (ap (clean style s) (omega arith))
+
+  pub clean-past : length s ≤ i → clean style s i ≡ true
+  unfolding clean
+  clean-past h = ap told (scan-end style s i h)
+
+  pub line-past : length s ≤ i → line_clean style s i ≡ true
+  unfolding up_to
+  line-past h = rw (drop_of_length-le s h, add-zero i) (clean-past h)
+
+  -- in code
+  pub clean-code : i < length s → piece style (drop i s) ≡ Code → clean style s i ≡ clean style s (i + 1)
+  unfolding clean
+  clean-code h e = ap told (scan-code style s i h e)
+
+  clean-hidden : (n : ℕ) → i < length s → piece style (drop i s) ≡ Hidden n → 0 < n → clean style s i ≡ clean style s (i + n)
+  unfolding clean
+  clean-hidden n h e p = ap told (scan-hidden style s i n h e p)
+
+  pub clean-quote : (o : Option ℕ) → i < length s → piece style (drop i s) ≡ quoted o → clean style s i ≡ ends (more (i + 1) o)
+  unfolding clean
+  clean-quote none h e = ap told (scan-quote style s i h e)
+  clean-quote (some n) h e = clean-hidden (1 + n) h e (omega arith) ∙ ap (clean style s) (omega arith)
+
+  pub clean-block : (o : Option ℕ) → i < length s → piece style (drop i s) ≡ commented o → clean style s i ≡ ends (more (i + 2) o)
+  unfolding clean
+  clean-block none h e = ap told (scan-comment style s i h e)
+  clean-block (some n) h e = clean-hidden (2 + n) h e (omega arith) ∙ ap (clean style s) (omega arith)
+
+  pub clean_line : (k : ℕ) → i < length s → piece style (drop i s) ≡ Hidden (k + up_to is_eol (drop (i + k) s)) → 0 < k → clean style s i ≡ line_clean style s (i + k)
+  clean_line k h e p = clean-hidden (k + up_to is_eol (drop (i + k) s)) h e (omega arith) ∙ ap (clean style s) (omega arith)
+
+  -- by the byte that stands there
+  pub at-quote : (q : ℕ) → i < length s → get_or s i 0 ≡ q → (eqb q 39 || eqb q 34) ≡ true → clean style s i ≡ quote_clean style s q (i + 1)
+  at-quote q h b e = clean-quote (literal style q 0 (drop (i + 1) s)) h (piece_is style s i h ∙ rw (b, e) refl)
+
+  slash-piece : i < length s → get_or s i 0 ≡ 47 → piece style (drop i s) ≡ slashed style (drop (i + 1) s)
+  slash-piece h b = piece_is style s i h ∙ rw b refl
+
+  pub at-slash-star : i < length s → get_or s i 0 ≡ 47 → eqb (get_or s (i + 1) 0) 42 ≡ true → clean style s i ≡ block_clean style s (i + 2)
+  at-slash-star h b e = clean-block (block_end (drop (i + 2) s)) h (slash-piece h b ∙ slash-block style s i e)
+
+  pub at-slash-slash : i < length s → get_or s i 0 ≡ 47 → eqb (get_or s (i + 1) 0) 42 ≡ false → (is_c_like style && eqb (get_or s (i + 1) 0) 47) ≡ true → clean style s i ≡ line_clean style s (i + 2)
+  at-slash-slash h b e f = clean_line 2 h (slash-piece h b ∙ slash-line style s i e f) (omega arith)
+
+  pub at-slash-else : i < length s → get_or s i 0 ≡ 47 → eqb (get_or s (i + 1) 0) 42 ≡ false → (is_c_like style && eqb (get_or s (i + 1) 0) 47) ≡ false → clean style s i ≡ clean style s (i + 1)
+  at-slash-else h b e f = clean-code h (slash-piece h b ∙ slash-code style s i e f)
+
+  bang-piece : i < length s → get_or s i 0 ≡ 33 → piece style (drop i s) ≡ banged style (drop (i + 1) s)
+  bang-piece h b = piece_is style s i h ∙ rw b refl
+
+  pub at-bang-line : i < length s → get_or s i 0 ≡ 33 → (is_fortran style && not (eqb (get_or s (i + 1) 0) 36)) ≡ true → clean style s i ≡ line_clean style s (i + 1)
+  at-bang-line h b e = clean_line 1 h (bang-piece h b ∙ bang-line style s i e) (omega arith)
+
+  pub at-bang-else : i < length s → get_or s i 0 ≡ 33 → (is_fortran style && not (eqb (get_or s (i + 1) 0) 36)) ≡ false → clean style s i ≡ clean style s (i + 1)
+  at-bang-else h b e = clean-code h (bang-piece h b ∙ bang-code style s i e)
+
+-- what is left where a byte is not plain, no quote and no slash
+pub only-bang : (b : ℕ) → is_plain b ≡ false → eqb b 39 ≡ false → eqb b 34 ≡ false → eqb b 47 ≡ false → b ≡ 33
+only-bang b p q r t = eqb-true b 33 (not-false (eqb b 33) (rw (q, r, t) at p))
+
+-- each of the five flags
+module _ (style : CommentStyle) (s : List ℕ) (i : ℕ) (f : Flags) (e : f ≡ flags_at style s i) where
+  pub flag-code : f.code ≡ clean style s i
+  unfolding flags_at
+  flag-code = ap (λ (x : Flags). x.code) e
+
+  pub flag-single : f.single ≡ quote_clean style s 39 i
+  unfolding flags_at
+  flag-single = ap (λ (x : Flags). x.single) e
+
+  pub flag-double : f.double ≡ quote_clean style s 34 i
+  unfolding flags_at
+  flag-double = ap (λ (x : Flags). x.double) e
+
+  pub flag-block : f.block ≡ block_clean style s i
+  unfolding flags_at
+  flag-block = ap (λ (x : Flags). x.block) e
+
+  pub flag-line : f.line ≡ line_clean style s i
+  unfolding flags_at
+  flag-line = ap (λ (x : Flags). x.line) e
+
+-- all five together
+module _ (style : CommentStyle) (s : List ℕ) (i : ℕ) where
+  pub flags-made : (f : Flags) → f.code ≡ clean style s i → f.single ≡ quote_clean style s 39 i → f.double ≡ quote_clean style s 34 i → f.block ≡ block_clean style s i → f.line ≡ line_clean style s i → f ≡ flags_at style s i
+  unfolding flags_at
+  flags-made f a b d e g = rw (← a, ← b, ← d, ← e, ← g) refl
+
+  pub flags-past : length s ≤ i → flags_at style s i ≡ past_end
+  unfolding flags_at
+  flags-past h = rw (clean-past style s i h, quote-past style s i 39 h, quote-past style s i 34 h, block-past style s i h, line-past style s i h) refl
+
+-- marks in a number
+module _ (style : CommentStyle) (s : List ℕ) where
+  abbrev pub mark : ℕ → ℕ
+  mark i = cond (clean style s i) 1 0
+
+  mark-small : (b : Bool) → cond b 1 0 ≤ 1
+  mark-small true = omega arith
+  mark-small false = omega arith
+
+  marks-lt : (n i : ℕ) → marks_from style s i n < 2 ^ n
+  marks-lt zero i = rw (pow-zero 2) (omega arith)
+  marks-lt (suc n) i = rw (pow-succ' 2 n) (omega (arith, mark-small (clean style s i), marks-lt n (suc i)))
+
+  pub marks-small : (n i : ℕ) → n ≤ 8 → marks_from style s i n < 256
+  marks-small n i h = omega (arith, marks-lt n i, pow_mono h)
+
+  pub marks-fit : (n i : ℕ) → n ≤ 32 → marks_from style s i n < 4294967296
+  marks-fit n i h = omega (arith, marks-lt n i, pow_mono h)
+
+  ones : (b : Bool) (n : ℕ) → cond b 1 0 + 2 * cond b (2 ^ n - 1) 0 ≡ cond b (2 ^ suc n - 1) 0
+  ones true n = rw (pow-succ' 2 n) (omega (arith, pow_pos n))
+  ones false n = refl
+
+  -- behind the text all are 1
+  pub marks-past : (n i : ℕ) → length s ≤ i → marks_from style s i n ≡ 2 ^ n - 1
+  marks-past zero i h = refl
+  marks-past (suc n) i h = rw (clean-past style s i h, marks-past n (suc i) (omega arith)) (ones true n)
+
+  pub marks-bit : (j n i : ℕ) → j < n → marks_from style s i n / 2 ^ j % 2 ≡ mark (i + j)
+  marks-bit j zero i h = absurd (omega arith)
+  marks-bit zero (suc n) i h =
+      let m = mark-small (clean style s i) in
+      rw (pow-zero 2, div-one, add-zero i) (omega arith)
+  marks-bit (suc j) (suc n) i h =
+      let m = mark-small (clean style s i) in
+      let half : (mark i + 2 * marks_from style s (suc i) n) / 2 ≡ marks_from style s (suc i) n = omega arith in
+      let k : i + suc j ≡ suc i + j = omega arith in
+      rw (pow-succ' 2 j, ← div-div-eq-div-mul, half, k) (marks-bit j n (suc i) (omega arith))
+
+  -- the marks of m places and of n behind them
+  pub marks-split : (m n i : ℕ) → marks_from style s i (m + n) ≡ marks_from style s i m + 2 ^ m * marks_from style s (i + m) n
+  marks-split zero n i = let z : 0 + n ≡ n = omega arith in rw (z, pow-zero 2, add-zero i) (omega arith)
+  marks-split (suc m) n i =
+      let e : suc i + m ≡ i + suc m = omega arith in
+      let d : suc m + n ≡ suc (m + n) = omega arith in
+      rw (d, pow-succ' 2 m, marks-split m n (suc i), e) (nested (mark i) (marks_from style s (suc i) m) (2 ^ m) (marks_from style s (i + suc m) n))
+    where
+      nested : (b x p y : ℕ) → b + 2 * (x + p * y) ≡ b + 2 * x + 2 * p * y
+      nested b x p y = rw (mul_assoc 2 p y) (omega arith)
+
+  -- the mark of a place in its cell
+  pub mark-told : (b : Bool) → eqb (cond b 1 0) 1 ≡ b
+  mark-told true = refl
+  mark-told false = refl
+
+  pub marked-at : (marks : List ℕ) (at : ℕ) → Marked style s marks → at ≤ length s → eqb (get_or marks (at / 32) 0 / 2 ^ (at % 32) % 2) 1 ≡ clean style s at
+  marked-at marks at m h =
+      let k : at / 32 ≤ length s / 32 = omega arith in
+      let p : 32 * (at / 32) + at % 32 ≡ at = omega arith in
+      let j : at % 32 < 32 = omega arith in
+      rw (m.cells (at / 32) k, marks-bit (at % 32) 32 (32 * (at / 32)) j, p) (mark-told (clean style s at))
+
+  -- by the mark the match is that of the brackets alone, or none
+  nothing-told : (f : Unclosed) → is_nothing f ≡ true → f ≡ Nothing
+  nothing-told Nothing e = refl
+  nothing-told (Quote p) e = absurd (let z : ◌≡◌ {A = ℕ} 0 1 = cc in omega arith)
+  nothing-told (Comment p) e = absurd (let z : ◌≡◌ {A = ℕ} 0 1 = cc in omega arith)
+
+  open_told : (f : Unclosed) (m : Match) → is_nothing f ≡ false → unless_open f m ≡ Unmatched
+  open_told Nothing m e = absurd (let z : ◌≡◌ {A = ℕ} 0 1 = cc in omega arith)
+  open_told (Quote p) m e = refl
+  open_told (Comment p) m e = refl
+
+  pub clean-nothing : (at : ℕ) → clean style s at ≡ true → (scan_at style s at).fault ≡ Nothing
+  unfolding clean
+  clean-nothing at e = nothing-told (scan_at style s at).fault e
+
+  pub unclean-unmatched : (at : ℕ) → clean style s at ≡ false → matching style at (drop at s) ≡ Unmatched
+  unfolding clean matching
+  unclean-unmatched at e = open_told (scan_at style s at).fault (match_from (41 ∷ []) (scan_at style s at).codes) e
+
+-- where nothing is unclosed the match is that of the brackets alone
+pub match-clean : (style : CommentStyle) (s : List ℕ) (at : ℕ) → (scan_at style s at).fault ≡ Nothing
+    → matching style at (drop at s) ≡ match_from (41 ∷ []) (scan_at style s at).codes
+unfolding matching
+match-clean style s at e = rw e refl
+
+-- dull bytes
+module _ (style : CommentStyle) (s : List ℕ) where
+  module _ (i : ℕ) (h : i < length s) (d : is_dull (get_or s i 0) ≡ true) where
+    abbrev here : ℕ
+    here = get_or s i 0
+
+    plain-part : is_plain here ≡ true
+    plain-part = and_left (is_plain here) (not (eqb here 92)) (and_left (is_plain here && not (eqb here 92)) (not (eqb here 42)) (and_left (is_plain here && not (eqb here 92) && not (eqb here 42)) (not (is_eol here)) d))
+
+    no-escape : eqb here 92 ≡ false
+    no-escape = not-true (eqb here 92) (and_right (is_plain here) (not (eqb here 92)) (and_left (is_plain here && not (eqb here 92)) (not (eqb here 42)) (and_left (is_plain here && not (eqb here 92) && not (eqb here 42)) (not (is_eol here)) d)))
+
+    no-star : eqb here 42 ≡ false
+    no-star = not-true (eqb here 42) (and_right (is_plain here && not (eqb here 92)) (not (eqb here 42)) (and_left (is_plain here && not (eqb here 92) && not (eqb here 42)) (not (is_eol here)) d))
+
+    no-eol : is_eol here ≡ false
+    no-eol = not-true (is_eol here) (and_right (is_plain here && not (eqb here 92) && not (eqb here 42)) (not (is_eol here)) d)
+
+    -- so it hides nothing in a literal in q, if it is not q
+    plain_in : (b q next : ℕ) → eqb b 92 ≡ false → eqb b q ≡ false → hides_next style q b next ≡ false
+    plain_in b q next e f = rw (e, f) (none (has_escapes style))
+      where
+        none : (t : Bool) → ((t && false) || (false && eqb next q)) ≡ false
+        none true = refl
+        none false = refl
+
+    no-quotes : (eqb here 39 ≡ false) × (eqb here 34 ≡ false)
+    no-quotes =
+        let e = not-true (eqb here 39 || eqb here 34 || eqb here 47 || eqb here 33) plain-part in
+        let a = or-none (eqb here 39 || eqb here 34 || eqb here 47) (eqb here 33) e in
+        let b = or-none (eqb here 39 || eqb here 34) (eqb here 47) a.0 in
+        or-none (eqb here 39) (eqb here 34) b.0
+
+    pub flags-dull : flags_at style s i ≡ flags_at style s (i + 1)
+    unfolding flags_at
+    flags-dull =
+        let q = no-quotes in
+        rw (
+          clean-code style s i h (plain_code style s i h plain-part),
+          quote-plain style s i 39 h (plain_in here 39 (get_or s (i + 1) 0) no-escape q.0) q.0,
+          quote-plain style s i 34 h (plain_in here 34 (get_or s (i + 1) 0) no-escape q.1) q.1,
+          block_goes style s i h (rw no-star refl),
+          line-goes style s i h no-eol,
+        ) refl
+
+  -- n of them from a place on
+  abbrev Dull : ℕ → ℕ → Type 0
+  Dull i n = (j : ℕ) → j < n → is_dull (get_or s (i + j) 0) ≡ true
+
+  dull-first : (i n : ℕ) → Dull i (suc n) → is_dull (get_or s i 0) ≡ true
+  dull-first i n d = rw (add-zero i) at (d 0 (omega arith))
+
+  dull-rest : (i n : ℕ) → Dull i (suc n) → Dull (suc i) n
+  dull-rest i n d j h = let e : suc i + j ≡ i + suc j = omega arith in rw e (d (suc j) (omega arith))
+
+  pub flags-run : (n i : ℕ) → i + n ≤ length s → Dull i n → flags_at style s i ≡ flags_at style s (i + n)
+  flags-run zero i h d = rw (add-zero i) refl
+  flags-run (suc n) i h d =
+      let e : suc i + n ≡ i + suc n = omega arith in
+      flags-dull i (omega arith) (dull-first i n d) ∙ rw (add-one i, ← e) (flags-run n (suc i) (omega arith) (dull-rest i n d))
+
+  clean_run : (n i : ℕ) → i + n ≤ length s → Dull i n → clean style s i ≡ clean style s (i + n)
+  unfolding flags_at
+  clean_run n i h d = ap (λ (f : Flags). f.code) (flags-run n i h d)
+
+  pub marks-run : (n i : ℕ) → i + n ≤ length s → Dull i n → marks_from style s i n ≡ cond (clean style s (i + n)) (2 ^ n - 1) 0
+  marks-run zero i h d = nought (clean style s (i + 0))
+    where
+      nought : (b : Bool) → 0 ≡ cond b (2 ^ 0 - 1) 0
+      nought true = refl
+      nought false = refl
+  marks-run (suc n) i h d =
+      let e : suc i + n ≡ i + suc n = omega arith in
+      let c = clean_run (suc n) i h d in
+      rw (marks-run n (suc i) (omega arith) (dull-rest i n d), e, c) (ones style s (clean style s (i + suc n)) n)
+
+  pub dulls-told : (at k : ℕ) → dulls s at k ≡ true → Dull at (suc k)
+  dulls-told at zero e j h = let z : j ≡ 0 = omega arith in rw (z, add-zero at) e
+  dulls-told at (suc k) e j h =
+      by_cases (eqb j (suc k))
+      (λ t. rw (eqb-true j (suc k) t) (and_right (dulls s at k) (is_dull (get_or s (at + suc k) 0)) e))
+      (λ f. dulls-told at k (and_left (dulls s at k) (is_dull (get_or s (at + suc k) 0)) e) j (omega (arith, eqb-false j (suc k) f)))
