@@ -1,11 +1,11 @@
 -- Laws of the marks: what is unclosed from a place on, by what is from the next place and the one after that.
 -- Assumes nothing.
-use mathlib.Core.Path.{◌≡◌, refl, sym, ap, ◌∙◌}
+use mathlib.Core.Path.{◌≡◌, refl, ap, ◌∙◌}
 use mathlib.Core.Bool.{Bool, true, false, cond, not, ◌&&◌, ◌||◌}
 use mathlib.Core.Option.{Option, some, none}
 use mathlib.Core.List.{List, [], ◌∷◌}
 use Prim.Native.Nat.{ℕ, zero, suc, ◌+◌, ◌-◌, ◌*◌, ◌/◌, ◌%◌, ◌^◌, ◌<◌, ◌≤◌}
-use native.Mathlib.Nat.{add-zero, add-suc, suc-add, pow-zero, pow-succ', mul_assoc, div-div-eq-div-mul, div-one}
+use native.Mathlib.Nat.{add-zero, pow-zero, pow-succ', mul_assoc, div-div-eq-div-mul, div-one}
 use native.Mathlib.Numerals.{add-one}
 use native.Mathlib.Omega.{arith}
 use borrow.Author.Tests.{eqb-true, eqb-false, not-true, not-false}
@@ -21,7 +21,7 @@ use Rattle.code.specs.declared.Unclosed.TheVariants.{Nothing, Quote, Comment}
 use Rattle.code.specs.declared.Match.{Match}
 use Rattle.code.specs.declared.Match.TheVariants.{Unmatched}
 use Rattle.code.specs.declared.Flags.{Flags}
-use Rattle.code.specs.declared.Piece.TheVariants.{Code, Hidden, OpenQuote, OpenComment}
+use Rattle.code.specs.declared.Piece.TheVariants.{Code, Hidden}
 use Rattle.code.specs.Code.{Scan, more, has_escapes, hides_next, literal, block_end, quoted, is_c_like, is_fortran, commented, slashed, banged, piece, is_plain, scan_at}
 use Rattle.code.specs.Matching.{match_from, unless_open, matching}
 use Rattle.code.specs.Marks.{is_nothing, clean, ends_clean, quote_clean, block_clean, line_clean, past_end, flags_at, marks_from, Marked, is_dull, dulls}

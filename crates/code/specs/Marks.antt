@@ -1,5 +1,5 @@
 -- From which places of a text on nothing is unclosed, told from the back of the text: a matter of speed, no rule of document 01.
-use Rattle.std.specs.Prelude.{ℕ, zero, suc, ◌+◌, ◌*◌, ◌/◌, ◌%◌, ◌^◌, ◌≤◌, ◌<◌, ◌≡◌, Bool, true, false, cond, not, ◌&&◌, List, eqb, length, drop, get_or}
+use Rattle.std.specs.Prelude.{ℕ, zero, suc, ◌+◌, ◌*◌, ◌/◌, ◌≤◌, ◌<◌, ◌≡◌, Bool, true, false, cond, not, ◌&&◌, List, eqb, length, drop, get_or}
 use Rattle.std.proofs.Math.Option.{Option, some, none}
 use Rattle.ascii.specs.Ascii.{is_eol}
 use Rattle.ascii.specs.Text.{up_to}

@@ -1,6 +1,6 @@
 -- `ascii::class::row` meets its contract: each row that the compiler computes from the table is the rule's, which antt computes and compares.
 -- Assumes nothing.
-use mathlib.Core.Path.{◌≡◌, refl, sym}
+use mathlib.Core.Path.{refl, sym}
 use mathlib.Core.Bool.{Bool, true, false, cond}
 use Prim.Native.Nat.{ℕ}
 use lib.Dec.{eqb}

@@ -1,7 +1,7 @@
 -- `marks::cell` meets its contract. Invariant: the bits are the marks from the place on, and the flags are those of the place and the next.
 -- Assumes nothing.
 use mathlib.Core.Path.{◌≡◌, refl}
-use Prim.Native.Nat.{ℕ, ◌+◌, ◌*◌, ◌-◌, ◌≤◌, ◌<◌}
+use Prim.Native.Nat.{◌+◌, ◌*◌, ◌-◌, ◌≤◌, ◌<◌}
 use native.Mathlib.Omega.{arith}
 use Rattle.code.specs.Marks.{flags_at, marks_from}
 use Rattle.code.proofs.MarkLaws.{marks-fit, marks-split}

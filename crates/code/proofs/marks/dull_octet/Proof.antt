@@ -1,12 +1,8 @@
 -- `marks::dull_octet` meets its contract: dull bytes keep the flags, so all eight marks are alike. Assumes nothing.
-use mathlib.Core.Path.{◌≡◌, refl, sym, ap, ◌∙◌}
-use Prim.Native.Nat.{ℕ, suc, ◌+◌, ◌≤◌, ◌<◌}
+use mathlib.Core.Path.{refl, sym, ◌∙◌}
+use Prim.Native.Nat.{◌+◌}
 use native.Mathlib.Nat.{add-zero}
 use native.Mathlib.Omega.{arith}
-use borrow.Author.Rules.{rules}
-use lib.ListN.{length}
-use Rattle.code.specs.declared.Flags.{Flags}
-use Rattle.code.specs.Marks.{flags_at}
 use Rattle.code.proofs.MarkLaws.{flag-code, flags-dull, flags-run, marks-run, dulls-told}
 use Rattle.code.proofs.marks.dull_octet.Statement.{statement}
 use Rattle.code.proofs.marks.dull_octet.Tie as tie

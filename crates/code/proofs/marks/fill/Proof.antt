@@ -1,15 +1,15 @@
 -- `marks::fill` meets its contract. Invariant: the cells from one on hold their marks, and the flags are those of its first place and the next.
 -- Assumes nothing.
-use mathlib.Core.Path.{◌≡◌, refl, sym, ap, ◌∙◌}
-use Prim.Native.Nat.{ℕ, suc, ◌+◌, ◌*◌, ◌-◌, ◌/◌, ◌≤◌, ◌<◌}
+use mathlib.Core.Path.{◌≡◌, refl, sym, ◌∙◌}
+use Prim.Native.Nat.{ℕ, ◌+◌, ◌*◌, ◌-◌, ◌/◌, ◌≤◌, ◌<◌}
 use native.Mathlib.Omega.{arith}
 use borrow.Author.Rules.{rules}
 use borrow.Author.Tests.{eqb-true, eqb-false}
 use lib.Dec.{eqb}
-use lib.ListN.{length, get_or, set, length-set}
+use lib.ListN.{length, get_or, length-set}
 use lib.Seq.{get_or-set_same, get_or-set_other}
 use Rattle.ascii.proofs.Flags.{by_cases}
-use Rattle.code.specs.Marks.{flags_at, marks_from, Marked}
+use Rattle.code.specs.Marks.{flags_at, marks_from}
 use Rattle.code.proofs.MarkLaws.{flags-past}
 use Rattle.code.proofs.marks.fill.Statement.{statement}
 use Rattle.code.proofs.marks.fill.Tie as tie

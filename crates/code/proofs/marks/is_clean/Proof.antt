@@ -1,5 +1,4 @@
 -- `marks::is_clean` meets its contract: the mark of a place is a bit of its cell. Assumes nothing.
-use mathlib.Core.Path.{refl, sym, ◌∙◌}
 use Prim.Native.Nat.{◌/◌}
 use native.Mathlib.Omega.{arith}
 use borrow.Author.Rules.{rules}

@@ -1,13 +1,11 @@
 -- `marks::mixed_octet` meets its contract. Invariant: what is packed are the marks from the place on, and the flags are those of the place and the next.
 -- Assumes nothing.
-use mathlib.Core.Path.{◌≡◌, refl, sym, ap, ◌∙◌}
+use mathlib.Core.Path.{◌≡◌, refl, ap, ◌∙◌}
 use mathlib.Core.Bool.{cond}
-use Prim.Native.Nat.{ℕ, suc, ◌+◌, ◌*◌, ◌-◌, ◌≤◌, ◌<◌}
-use native.Mathlib.Nat.{add-zero, mul_comm}
+use Prim.Native.Nat.{suc, ◌+◌, ◌*◌, ◌-◌, ◌≤◌, ◌<◌}
+use native.Mathlib.Nat.{add-zero}
 use native.Mathlib.Omega.{arith}
 use borrow.Author.Rules.{rules}
-use lib.ListN.{length}
-use Rattle.code.specs.declared.Flags.{Flags}
 use Rattle.code.specs.Marks.{flags_at, marks_from}
 use Rattle.code.proofs.MarkLaws.{mark, marks-small, flag-code}
 use Rattle.code.proofs.marks.mixed_octet.Statement.{statement}

@@ -1,6 +1,6 @@
 -- `any_cut_before` meets its contract: where a break of C stands there is no continuation of Fortran.
-use Rattle.std.proofs.Common.{◌≡◌, ◌<◌, drop, arith, sym, ◌∙◌}
-use Rattle.lexer.specs.Continuation.{break_f, break_c}
+use Rattle.std.proofs.Common.{◌<◌, drop, arith}
+use Rattle.lexer.specs.Continuation.{break_c}
 use Rattle.lexer.proofs.Continuing.{one-break}
 use Rattle.source.proofs.joining.any_cut_before.Goals as goal
 
