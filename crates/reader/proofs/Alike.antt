@@ -9,7 +9,7 @@ use Rattle.refusal.specs.Answer.{given, max_length}
 use Rattle.lexer.specs.declared.Language.{Language}
 use Rattle.lexer.specs.declared.Language.TheVariants.{C}
 use Rattle.lexer.specs.declared.Prefix.{Prefix}
-use Rattle.source.specs.Laws.{Break, broken, is_plain}
+use Rattle.source.specs.Laws.{Break, broken, IsPlain}
 use Rattle.bookform.specs.declared.ClauseRule.TheVariants.{Unsupported}
 use Rattle.rulebook.specs.Book.{book_of}
 use Rattle.rulebook.specs.Check.{book_fault}
@@ -36,7 +36,7 @@ abbrev pub Meets : Language → Prefix → List ℕ → List ℕ → ℕ → ℕ
 Meets l p book line text_slots map_slots record_slots c = left_call c ≡ line_call l p book line text_slots map_slots record_slots
 
 -- the broken line and its text: the same answer, text and records
-pub broken-alike : (t : List ℕ) → is_plain t → (gap : ℕ → List Break) (p : Prefix) (book : List ℕ) (text_slots map_slots record_slots : ℕ) (a b : Left)
+pub broken-alike : (t : List ℕ) → IsPlain t → (gap : ℕ → List Break) (p : Prefix) (book : List ℕ) (text_slots map_slots record_slots : ℕ) (a b : Left)
     → length (broken t gap) ≤ max_length → length (broken t gap) ≤ text_slots → length (broken t gap) < map_slots
     → Meets C p book (broken t gap) text_slots map_slots record_slots a → Meets C p book t text_slots map_slots record_slots b
     → (line_gives a.answer ≡ line_gives b.answer) × (a.text ≡ b.text) × (a.records ≡ b.records)

@@ -9,7 +9,7 @@ use Rattle.lexer.specs.declared.Language.TheVariants.{C}
 use Rattle.lexer.specs.declared.Prefix.{Prefix}
 use Rattle.source.specs.Joining.{joined_text}
 use Rattle.source.specs.Calls.{join_call}
-use Rattle.source.specs.Laws.{Break, broken, broken_map, is_plain}
+use Rattle.source.specs.Laws.{Break, broken, broken_map, IsPlain}
 use Rattle.bookform.specs.declared.ClauseRule.TheVariants.{Unsupported}
 use Rattle.rulebook.specs.Book.{book_of}
 use Rattle.rulebook.specs.Check.{book_fault}
@@ -22,7 +22,7 @@ use Rattle.reader.specs.Calls.{line_call}
 -- map that suffice for the broken line. The whole line's reading or refusal, text and records are those of the unbroken text; join alone gives the text
 -- and the map of the breaks, whose last entry is the line's length.
 abbrev pub BreaksChangeNothing : Type 0
-BreaksChangeNothing = (t : List ℕ) → is_plain t → (gap : ℕ → List Break) (p : Prefix) (book : List ℕ) (text_slots map_slots record_slots : ℕ)
+BreaksChangeNothing = (t : List ℕ) → IsPlain t → (gap : ℕ → List Break) (p : Prefix) (book : List ℕ) (text_slots map_slots record_slots : ℕ)
     → length (broken t gap) ≤ max_length → length (broken t gap) ≤ text_slots → length (broken t gap) < map_slots
     → ((line_call C p book (broken t gap) text_slots map_slots record_slots).answer ≡ (line_call C p book t text_slots map_slots record_slots).answer)
     × ((line_call C p book (broken t gap) text_slots map_slots record_slots).text ≡ (line_call C p book t text_slots map_slots record_slots).text)

@@ -9,7 +9,7 @@ use lib.ListN.{length, length-append}
 use Rattle.lexer.specs.declared.Language.TheVariants.{C}
 use Rattle.lexer.specs.Continuation.{break_c}
 use Rattle.source.specs.Joining.{kept_from, place_of, joined_map}
-use Rattle.source.specs.Laws.{Break, lf, crlf, gap_bytes, broken, broken_bytes, broken_map, is_plain, BreaksKeepText}
+use Rattle.source.specs.Laws.{Break, lf, crlf, gap_bytes, broken, broken_bytes, broken_map, IsPlain, BreaksKeepText}
 use Rattle.source.proofs.Kept.{kept-first}
 use Rattle.source.proofs.Woven.{Woven, bare, byte, short, long, no_cut, last_entry, woven-join}
 
@@ -20,12 +20,12 @@ woven-gap (lf ∷ bs) w = short (woven-gap bs w)
 woven-gap (crlf ∷ bs) w = long (woven-gap bs w)
 
 -- a text is woven of itself, and with breaks
-pub woven-text : (t : List ℕ) → is_plain t → Woven t t
+pub woven-text : (t : List ℕ) → IsPlain t → Woven t t
 woven-text [] p = bare
 woven-text (x ∷ t) p =
     byte (p 0 (omega arith)).0 (p 0 (omega arith)).1.0 (p 0 (omega arith)).1.1 (woven-text t (λ i h. p (suc i) (omega arith)))
 
-pub woven-broken : (t : List ℕ) (gap : ℕ → List Break) → is_plain t → Woven t (broken t gap)
+pub woven-broken : (t : List ℕ) (gap : ℕ → List Break) → IsPlain t → Woven t (broken t gap)
 unfolding broken
 woven-broken [] gap p = rw append-nil at (woven-gap (gap 0) bare)
 woven-broken (x ∷ t) gap p =
@@ -73,18 +73,18 @@ kept_more at x bs {xs = xs} w = kept-gap at bs (x ∷ xs) ∙ kept-first break_c
 regroup : (at g m : ℕ) → at + suc (g + m) ≡ suc (at + g) + m
 regroup at g m = omega arith
 
-places : (at : ℕ) (t : List ℕ) (gap : ℕ → List Break) → is_plain t
+places : (at : ℕ) (t : List ℕ) (gap : ℕ → List Break) → IsPlain t
     → map place_of (kept_from break_c 0 at (broken t gap)) ++ ((at + length (broken t gap)) ∷ []) ≡ map (λ m. at + m) (broken_map gap 0 (suc (length t)))
 unfolding broken kept_from
 places at [] gap p = rw (map_more gap 0, map-none (λ i. gap (suc i)), rw append-nil at (kept-gap at (gap 0) []))
 places at (x ∷ t) gap p =
-    let tail : is_plain t = λ i h. p (suc i) (omega arith) in
+    let tail : IsPlain t = λ i h. p (suc i) (omega arith) in
     let g = length (gap_bytes (gap 0)) in
     let q : at + (g + suc (length (broken t (λ i. gap (suc i))))) ≡ suc (at + g) + length (broken t (λ i. gap (suc i))) = omega arith in
     rw (kept_more at x (gap 0) (woven-broken t (λ i. gap (suc i)) tail), map_more gap (suc (length t)), map-map (λ m. at + m) (λ m. suc (g + m)), length-append, q)
     (simp (regroup at g) (cons-path refl (places (suc (at + g)) t (λ i. gap (suc i)) tail)))
 
-pub broken-map : (t : List ℕ) (gap : ℕ → List Break) → is_plain t → joined_map C (broken t gap) ≡ broken_map gap 0 (suc (length t))
+pub broken-map : (t : List ℕ) (gap : ℕ → List Break) → IsPlain t → joined_map C (broken t gap) ≡ broken_map gap 0 (suc (length t))
 unfolding joined_map
 broken-map t gap p = simp (zero-add, map-id) at (places 0 t gap p)
 

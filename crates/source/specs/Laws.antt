@@ -61,13 +61,13 @@ broken_map gap i zero = []
 broken_map gap i (suc n) = (i + broken_bytes gap i) ∷ broken_map gap (suc i) n
 
 -- a C text of 7-bit bytes without CR and LF
-abbrev pub is_plain : List ℕ → Type 0
-is_plain t = (i : ℕ) → i < length t → (get_or t i 0 < 128) × ((get_or t i 0 ≡ 10 → ⊥) × (get_or t i 0 ≡ 13 → ⊥))
+abbrev pub IsPlain : List ℕ → Type 0
+IsPlain t = (i : ℕ) → i < length t → (get_or t i 0 < 128) × ((get_or t i 0 ≡ 10 → ⊥) × (get_or t i 0 ≡ 13 → ⊥))
 
 -- Demand 3 for join alone: whatever the breaks in all gaps together, joining gives the text, and the map where each byte now stands;
 -- its last entry is the line's length. "Text and map must suffice for the broken line."
 abbrev pub BreaksKeepText : Type 0
-BreaksKeepText = (t : List ℕ) → is_plain t → (gap : ℕ → List Break) (p : Prefix) (text_slots map_slots : ℕ)
+BreaksKeepText = (t : List ℕ) → IsPlain t → (gap : ℕ → List Break) (p : Prefix) (text_slots map_slots : ℕ)
     → length (broken t gap) ≤ max_length → length (broken t gap) ≤ text_slots → length (broken t gap) < map_slots
     → (join_call C p (broken t gap) text_slots map_slots
     ≡ record { answer = given (length t); text = padded 0 text_slots t; map = padded 0 map_slots (broken_map gap 0 (suc (length t))) })
