@@ -7,33 +7,7 @@ ghost use Rattle.source.specs.Joining.{cut_of, joined_text, joined_map, any_cut,
 use crate::runs;
 use lexer::{Language, continuation};
 
-// The bytes of the continuation of a language at a place; 0 for none.
-pub fn cut_at(language: Language, text: &[u8], at: usize) -> usize
-    requires { at ≤ length text.now }
-    ensures value { result ≡ cut_of language (drop at text.now) }
-    ensures result_in_bounds { at + result ≤ length text.now }
-{
-    match language {
-        Language::C => continuation::break_c(text, at),
-        Language::FortranFree => continuation::break_f(text, at),
-        Language::FortranFixed => continuation::break_f(text, at),
-    }
-}
-
-// The bytes of the continuation of either language at a place; 0 for none.
-fn any_cut_at(text: &[u8], at: usize) -> usize
-    requires { at ≤ length text.now }
-    ensures value { result ≡ any_cut (drop at text.now) }
-    ensures result_in_bounds { at + result ≤ length text.now }
-{
-    let gone = continuation::break_c(text, at);
-    if 0 < gone {
-        return gone;
-    }
-    continuation::break_f(text, at)
-}
-
-// The same where no line ends from a place on.
+// The bytes of the continuation of a language at a place, where no line ends from another place on; 0 for none.
 fn cut_before(language: Language, text: &[u8], at: usize, ends: usize) -> usize
     requires { (at ≤ length text.now) × Unended text.now ends }
     ensures value { result ≡ cut_of language (drop at text.now) }
@@ -57,6 +31,24 @@ fn any_cut_before(text: &[u8], at: usize, ends: usize) -> usize
         return gone;
     }
     continuation::break_f_before(text, at, ends)
+}
+
+// The bytes of the continuation of a language at a place; 0 for none.
+pub fn cut_at(language: Language, text: &[u8], at: usize) -> usize
+    requires { at ≤ length text.now }
+    ensures value { result ≡ cut_of language (drop at text.now) }
+    ensures result_in_bounds { at + result ≤ length text.now }
+{
+    cut_before(language, text, at, text.len())
+}
+
+// The bytes of the continuation of either language at a place; 0 for none.
+fn any_cut_at(text: &[u8], at: usize) -> usize
+    requires { at ≤ length text.now }
+    ensures value { result ≡ any_cut (drop at text.now) }
+    ensures result_in_bounds { at + result ≤ length text.now }
+{
+    any_cut_before(text, at, text.len())
 }
 
 // A place from which on no line ends; in C, where nothing asks for it, the line's end.
