@@ -3,7 +3,8 @@ use mathlib.Core.Path.{refl, sym, ◌∙◌}
 use Prim.Native.Nat.{◌+◌}
 use native.Mathlib.Nat.{add-zero}
 use native.Mathlib.Omega.{arith}
-use Rattle.code.proofs.MarkLaws.{flag-code, flags-dull, flags-run, marks-run, dulls-told}
+use Rattle.code.proofs.DullLaws.{flags-dull, flags-run, marks-run, dulls-told}
+use Rattle.code.proofs.MarkLaws.{flag-code}
 use Rattle.code.proofs.marks.dull_octet.Statement.{statement}
 use Rattle.code.proofs.marks.dull_octet.Tie as tie
 

@@ -1,7 +1,8 @@
 -- `marks::flags_at` meets its contract: each way is a law of the marks. Assumes nothing.
 use mathlib.Core.Path.{sym, ◌∙◌}
 use borrow.Author.Rules.{rules}
-use Rattle.code.proofs.MarkLaws.{flags-made, flags-past, flags-dull, flag-code, flag-single, flag-double, flag-block, flag-line}
+use Rattle.code.proofs.DullLaws.{flags-dull}
+use Rattle.code.proofs.MarkLaws.{flags-made, flags-past, flag-code, flag-single, flag-double, flag-block, flag-line}
 use Rattle.code.proofs.marks.flags_at.Statement.{statement}
 use Rattle.code.proofs.marks.flags_at.Tie as tie
 

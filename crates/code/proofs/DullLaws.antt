@@ -1,0 +1,103 @@
+-- Laws of dull bytes: before a row of them and behind it the same is unclosed, wherever it stands.
+-- By the laws of the marks, a byte at a time. Assumes nothing.
+use mathlib.Core.Path.{◌≡◌, refl, ap, ◌∙◌}
+use mathlib.Core.Bool.{Bool, true, false, cond, not, ◌&&◌, ◌||◌}
+use mathlib.Core.List.{List}
+use Prim.Native.Nat.{ℕ, zero, suc, ◌+◌, ◌-◌, ◌^◌, ◌<◌, ◌≤◌}
+use native.Mathlib.Nat.{add-zero}
+use native.Mathlib.Numerals.{add-one}
+use native.Mathlib.Omega.{arith}
+use borrow.Author.Tests.{eqb-true, eqb-false, not-true}
+use lib.Dec.{eqb}
+use lib.ListN.{length, get_or}
+use Rattle.ascii.specs.Ascii.{is_eol}
+use Rattle.ascii.proofs.Flags.{and_left, and_right, or-none, by_cases}
+use Rattle.code.specs.declared.CommentStyle.{CommentStyle}
+use Rattle.code.specs.declared.Flags.{Flags}
+use Rattle.code.specs.Code.{has_escapes, hides_next, is_plain}
+use Rattle.code.specs.Marks.{clean, flags_at, marks_from, is_dull, dulls}
+use Rattle.code.proofs.WalkLaws.{plain_code}
+use Rattle.code.proofs.MarkLaws.{clean-code, quote-plain, block_goes, line-goes, ones}
+
+-- one dull byte, and a row of them
+module _ (style : CommentStyle) (s : List ℕ) where
+  module _ (i : ℕ) (h : i < length s) (d : is_dull (get_or s i 0) ≡ true) where
+    abbrev here : ℕ
+    here = get_or s i 0
+
+    plain-part : is_plain here ≡ true
+    plain-part = and_left (is_plain here) (not (eqb here 92)) (and_left (is_plain here && not (eqb here 92)) (not (eqb here 42)) (and_left (is_plain here && not (eqb here 92) && not (eqb here 42)) (not (is_eol here)) d))
+
+    no-escape : eqb here 92 ≡ false
+    no-escape = not-true (eqb here 92) (and_right (is_plain here) (not (eqb here 92)) (and_left (is_plain here && not (eqb here 92)) (not (eqb here 42)) (and_left (is_plain here && not (eqb here 92) && not (eqb here 42)) (not (is_eol here)) d)))
+
+    no-star : eqb here 42 ≡ false
+    no-star = not-true (eqb here 42) (and_right (is_plain here && not (eqb here 92)) (not (eqb here 42)) (and_left (is_plain here && not (eqb here 92) && not (eqb here 42)) (not (is_eol here)) d))
+
+    no-eol : is_eol here ≡ false
+    no-eol = not-true (is_eol here) (and_right (is_plain here && not (eqb here 92) && not (eqb here 42)) (not (is_eol here)) d)
+
+    -- so it hides nothing in a literal in q, if it is not q
+    plain_in : (b q next : ℕ) → eqb b 92 ≡ false → eqb b q ≡ false → hides_next style q b next ≡ false
+    plain_in b q next e f = rw (e, f) (none (has_escapes style))
+      where
+        none : (t : Bool) → ((t && false) || (false && eqb next q)) ≡ false
+        none true = refl
+        none false = refl
+
+    no-quotes : (eqb here 39 ≡ false) × (eqb here 34 ≡ false)
+    no-quotes =
+        let e = not-true (eqb here 39 || eqb here 34 || eqb here 47 || eqb here 33) plain-part in
+        let a = or-none (eqb here 39 || eqb here 34 || eqb here 47) (eqb here 33) e in
+        let b = or-none (eqb here 39 || eqb here 34) (eqb here 47) a.0 in
+        or-none (eqb here 39) (eqb here 34) b.0
+
+    pub flags-dull : flags_at style s i ≡ flags_at style s (i + 1)
+    unfolding flags_at
+    flags-dull =
+        let q = no-quotes in
+        rw (
+          clean-code style s i h (plain_code style s i h plain-part),
+          quote-plain style s i 39 h (plain_in here 39 (get_or s (i + 1) 0) no-escape q.0) q.0,
+          quote-plain style s i 34 h (plain_in here 34 (get_or s (i + 1) 0) no-escape q.1) q.1,
+          block_goes style s i h (rw no-star refl),
+          line-goes style s i h no-eol,
+        ) refl
+
+  -- n of them from a place on
+  abbrev Dull : ℕ → ℕ → Type 0
+  Dull i n = (j : ℕ) → j < n → is_dull (get_or s (i + j) 0) ≡ true
+
+  dull-first : (i n : ℕ) → Dull i (suc n) → is_dull (get_or s i 0) ≡ true
+  dull-first i n d = rw (add-zero i) at (d 0 (omega arith))
+
+  dull-rest : (i n : ℕ) → Dull i (suc n) → Dull (suc i) n
+  dull-rest i n d j h = let e : suc i + j ≡ i + suc j = omega arith in rw e (d (suc j) (omega arith))
+
+  pub flags-run : (n i : ℕ) → i + n ≤ length s → Dull i n → flags_at style s i ≡ flags_at style s (i + n)
+  flags-run zero i h d = rw (add-zero i) refl
+  flags-run (suc n) i h d =
+      let e : suc i + n ≡ i + suc n = omega arith in
+      flags-dull i (omega arith) (dull-first i n d) ∙ rw (add-one i, ← e) (flags-run n (suc i) (omega arith) (dull-rest i n d))
+
+  clean_run : (n i : ℕ) → i + n ≤ length s → Dull i n → clean style s i ≡ clean style s (i + n)
+  unfolding flags_at
+  clean_run n i h d = ap (λ (f : Flags). f.code) (flags-run n i h d)
+
+  pub marks-run : (n i : ℕ) → i + n ≤ length s → Dull i n → marks_from style s i n ≡ cond (clean style s (i + n)) (2 ^ n - 1) 0
+  marks-run zero i h d = nought (clean style s (i + 0))
+    where
+      nought : (b : Bool) → 0 ≡ cond b (2 ^ 0 - 1) 0
+      nought true = refl
+      nought false = refl
+  marks-run (suc n) i h d =
+      let e : suc i + n ≡ i + suc n = omega arith in
+      let c = clean_run (suc n) i h d in
+      rw (marks-run n (suc i) (omega arith) (dull-rest i n d), e, c) (ones style s (clean style s (i + suc n)) n)
+
+  pub dulls-told : (at k : ℕ) → dulls s at k ≡ true → Dull at (suc k)
+  dulls-told at zero e j h = let z : j ≡ 0 = omega arith in rw (z, add-zero at) e
+  dulls-told at (suc k) e j h =
+      by_cases (eqb j (suc k))
+      (λ t. rw (eqb-true j (suc k) t) (and_right (dulls s at k) (is_dull (get_or s (at + suc k) 0)) e))
+      (λ f. dulls-told at k (and_left (dulls s at k) (is_dull (get_or s (at + suc k) 0)) e) j (omega (arith, eqb-false j (suc k) f)))
