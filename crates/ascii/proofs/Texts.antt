@@ -2,7 +2,7 @@
 -- Assumes nothing.
 use mathlib.Core.Path.{◌≡◌, refl, ap, ◌∙◌}
 use mathlib.Core.Bool.{Bool, true, false, cond, ◌&&◌}
-use mathlib.Core.Option.{some, none}
+use Rattle.std.specs.Prelude.{Some, None}
 use mathlib.Core.List.{List, [], ◌∷◌, ◌++◌, reverse, reverse-append, reverse-cons}
 use Prim.Native.Nat.{ℕ, zero, suc, ◌+◌, ◌-◌, ◌<◌, ◌≤◌}
 use native.Mathlib.Nat.{add-zero, zero-add}
@@ -108,7 +108,7 @@ module _ (f : ℕ → ℕ) (w s : List ℕ) (j i : ℕ) where
 
 -- the first byte above 127
 module _ (s : List ℕ) (i : ℕ) where
-  pub high-here : i < length s → 127 < get_or s i 0 → first_high i (drop i s) ≡ some i
+  pub high-here : i < length s → 127 < get_or s i 0 → first_high i (drop i s) ≡ Some i
   unfolding first_high
   high-here h g = rw (drop-cons s i 0, first_high, lt-ltb 127 (get_or s i 0) g)
 
@@ -116,7 +116,7 @@ module _ (s : List ℕ) (i : ℕ) where
   unfolding first_high
   high-later h g = rw (add-one, drop-cons s i 0, first_high, le-ltb 127 (get_or s i 0) g)
 
-  pub high-none : length s ≤ i → first_high i (drop i s) ≡ none
+  pub high-none : length s ≤ i → first_high i (drop i s) ≡ None
   unfolding first_high
   high-none h = rw (drop_of_length-le s h)
 

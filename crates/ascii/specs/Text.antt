@@ -2,7 +2,7 @@
 use Rattle.std.specs.Prelude.{ℕ, zero, suc, ◌+◌, ◌-◌, Bool, true, false, cond, not, ◌&&◌, List, [], ◌∷◌, ◌++◌, reverse, length, take, drop, get_or, replicate, eqb, ltb}
 use Prim.Native.Char.{code}
 use Prim.Native.String as S
-use Rattle.std.proofs.Math.Option.{Option, some, none}
+use Rattle.std.specs.Prelude.{Option, Some, None}
 use Rattle.ascii.specs.declared.Range.{Range}
 use Rattle.ascii.specs.declared.Found.{Found}
 use Rattle.ascii.specs.declared.Found.TheVariants.{At, Nothing}
@@ -70,8 +70,8 @@ begins f (p ∷ ps) (x ∷ xs) = eqb (f p) (f x) && begins f ps xs
 
 -- "byte above 127, the first": its place in a text whose first byte stands at place at
 unfoldable pub first_high : ℕ → List ℕ → Option ℕ
-first_high at [] = none
-first_high at (x ∷ xs) = cond (ltb 127 x) (some at) (first_high (suc at) xs)
+first_high at [] = None
+first_high at (x ∷ xs) = cond (ltb 127 x) (Some at) (first_high (suc at) xs)
 
 -- lent slots after a call: what is given first, the zero of their kind in all others
 abbrev pub padded : {A : Type 0} → A → ℕ → List A → List A
@@ -79,8 +79,8 @@ padded z size xs = xs ++ replicate (size - length xs) z
 
 -- the declared answer of a search
 abbrev pub found_at : Found → Option ℕ
-found_at Nothing = none
-found_at (At i) = some i
+found_at Nothing = None
+found_at (At i) = Some i
 
 -- how bytes compare: with case ignored or not
 abbrev pub comparing : Bool → ℕ → ℕ

@@ -2,7 +2,7 @@
 -- Assumes nothing.
 use mathlib.Core.Path.{◌≡◌, refl, sym, ◌∙◌}
 use mathlib.Core.Bool.{Bool, true}
-use mathlib.Core.Option.{some, none}
+use Rattle.std.specs.Prelude.{Some, None}
 use mathlib.Core.List.{List, [], ◌∷◌, ◌++◌}
 use Prim.Native.Nat.{ℕ, zero, suc, ◌+◌, ◌<◌, ◌≤◌}
 use native.Mathlib.Nat.{zero-add}
@@ -24,7 +24,7 @@ use Rattle.bookform.proofs.Grammars.{form-is-book}
 
 -- from a state on bytes can bring a book to its end
 Ends : Expect → Type 0
-Ends e = (at : ℕ) → (rest : List ℕ) × (bad_from e at rest ≡ none) × (are_bytes rest ≡ true)
+Ends e = (at : ℕ) → (rest : List ℕ) × (bad_from e at rest ≡ None) × (are_bytes rest ≡ true)
 
 clauses-end : (c : ℕ) → Ends (clauses_left c)
 unfolding bad_from Ends
@@ -104,11 +104,11 @@ ends (ClauseName n c) at = word-ends n c at
 ends End at = ([], refl, refl)
 
 -- a fault lies from the place on and not past the end
-ranged : (bs : List ℕ) (e : Expect) (at i : ℕ) → bad_from e at bs ≡ some i → (at ≤ i) × (i ≤ at + length bs)
+ranged : (bs : List ℕ) (e : Expect) (at i : ℕ) → bad_from e at bs ≡ Some i → (at ≤ i) × (i ≤ at + length bs)
 unfolding bad_from
 ranged [] e at i h = let q = ended e h in omega arith
   where
-    ended : (e : Expect) → ended_at e at ≡ some i → at ≡ i
+    ended : (e : Expect) → ended_at e at ≡ Some i → at ≡ i
     ended (HeaderByte i) h = cc
     ended (ClauseCount d) h = cc
     ended (DirectiveLength d c) h = cc
@@ -119,19 +119,19 @@ ranged [] e at i h = let q = ended e h in omega arith
     ended End h = never i (sym h)
 ranged (b ∷ bs) e at i h = go (stepped e b) refl (λ n. ranged bs n (suc at) i)
   where
-    go : (s : Step) → stepped e b ≡ s → ((n : Expect) → bad_from n (suc at) bs ≡ some i → (suc at ≤ i) × (i ≤ suc at + length bs)) → (at ≤ i) × (i ≤ at + suc (length bs))
-    go Bad q ih = let z : some at ≡ some i = rw (bad_from, q) at h in let y : at ≡ i = cc in omega arith
+    go : (s : Step) → stepped e b ≡ s → ((n : Expect) → bad_from n (suc at) bs ≡ Some i → (suc at ≤ i) × (i ≤ suc at + length bs)) → (at ≤ i) × (i ≤ at + suc (length bs))
+    go Bad q ih = let z : Some at ≡ Some i = rw (bad_from, q) at h in let y : at ≡ i = cc in omega arith
     go (Next n) q ih = omega (arith, ih n (rw (bad_from, q) at h))
 
 -- the bytes up to and with the bad one have the same fault, whatever follows
-stops : (bs rest : List ℕ) (e : Expect) (at k : ℕ) → bad_from e at bs ≡ some (at + k) → k < length bs → bad_from e at (take (suc k) bs ++ rest) ≡ some (at + k)
+stops : (bs rest : List ℕ) (e : Expect) (at k : ℕ) → bad_from e at bs ≡ Some (at + k) → k < length bs → bad_from e at (take (suc k) bs ++ rest) ≡ Some (at + k)
 unfolding bad_from
 stops [] rest e at k h l = absurd (omega arith)
 stops (b ∷ bs) rest e at k h l = go (stepped e b) refl k h l (λ n j. stops bs rest n (suc at) j)
   where
-    go : (s : Step) → stepped e b ≡ s → (k : ℕ) → bad_from e at (b ∷ bs) ≡ some (at + k) → k < suc (length bs)
-        → ((n : Expect) (j : ℕ) → bad_from n (suc at) bs ≡ some (suc at + j) → j < length bs → bad_from n (suc at) (take (suc j) bs ++ rest) ≡ some (suc at + j))
-        → bad_from e at (b ∷ take k bs ++ rest) ≡ some (at + k)
+    go : (s : Step) → stepped e b ≡ s → (k : ℕ) → bad_from e at (b ∷ bs) ≡ Some (at + k) → k < suc (length bs)
+        → ((n : Expect) (j : ℕ) → bad_from n (suc at) bs ≡ Some (suc at + j) → j < length bs → bad_from n (suc at) (take (suc j) bs ++ rest) ≡ Some (suc at + j))
+        → bad_from e at (b ∷ take k bs ++ rest) ≡ Some (at + k)
     go Bad q k h l ih = rw (bad_from, q) (rw (bad_from, q) at h)
     go (Next n) q zero h l ih = absurd (omega (arith, ranged bs n (suc at) (at + 0) (rw (bad_from, q) at h)))
     go (Next n) q (suc k) h l ih =
@@ -139,20 +139,20 @@ stops (b ∷ bs) rest e at k h l = go (stepped e b) refl k h l (λ n j. stops bs
         rw (bad_from, q, p) (ih n k (rw (bad_from, q, p) at h) (omega arith))
 
 -- and a book begins with any number of bytes before it
-begun : (bs : List ℕ) (e : Expect) (at i k : ℕ) → bad_from e at bs ≡ some i → at + k ≤ i → (rest : List ℕ) × (bad_from e at (take k bs ++ rest) ≡ none) × (are_bytes rest ≡ true)
+begun : (bs : List ℕ) (e : Expect) (at i k : ℕ) → bad_from e at bs ≡ Some i → at + k ≤ i → (rest : List ℕ) × (bad_from e at (take k bs ++ rest) ≡ None) × (are_bytes rest ≡ true)
 unfolding bad_from Ends
 begun bs e at i zero h l = ends e at
 begun [] e at i (suc k) h l = ends e at
 begun (b ∷ bs) e at i (suc k) h l = go (stepped e b) refl (λ n g. begun bs n (suc at) i k g (omega arith))
   where
-    go : (s : Step) → stepped e b ≡ s → ((n : Expect) → bad_from n (suc at) bs ≡ some i → (rest : List ℕ) × (bad_from n (suc at) (take k bs ++ rest) ≡ none) × (are_bytes rest ≡ true))
-        → (rest : List ℕ) × (bad_from e at (b ∷ take k bs ++ rest) ≡ none) × (are_bytes rest ≡ true)
-    go Bad q ih = let z : some at ≡ some i = rw (bad_from, q) at h in let y : at ≡ i = cc in absurd (omega arith)
+    go : (s : Step) → stepped e b ≡ s → ((n : Expect) → bad_from n (suc at) bs ≡ Some i → (rest : List ℕ) × (bad_from n (suc at) (take k bs ++ rest) ≡ None) × (are_bytes rest ≡ true))
+        → (rest : List ℕ) × (bad_from e at (b ∷ take k bs ++ rest) ≡ None) × (are_bytes rest ≡ true)
+    go Bad q ih = let z : Some at ≡ Some i = rw (bad_from, q) at h in let y : at ≡ i = cc in absurd (omega arith)
     go (Next n) q ih = let (r, g, y) = ih n (rw (bad_from, q) at h) in (r, rw (bad_from, q) g, y)
 
 pub bad-byte-is-first : BadByteIsFirst
 bad-byte-is-first bs i h =
-    let h' : bad_from (HeaderByte 0) 0 bs ≡ some (0 + i) = rw zero-add h in (
+    let h' : bad_from (HeaderByte 0) 0 bs ≡ Some (0 + i) = rw zero-add h in (
       omega (arith, ranged bs (HeaderByte 0) 0 i h),
       λ l b. never (0 + i) (sym (stops bs b.0 (HeaderByte 0) 0 i h' l) ∙ rw add-one at ((form-is-book _).1 b.1)),
       λ k l. let (rest, f, y) = begun bs (HeaderByte 0) 0 i k h (omega arith) in (rest, (form-is-book (take k bs ++ rest)).0 f, y),

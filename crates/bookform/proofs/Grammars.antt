@@ -2,7 +2,7 @@
 -- what is put together so is read without a fault. Assumes nothing.
 use mathlib.Core.Path.{◌≡◌, refl, sym, ap, ◌∙◌}
 use mathlib.Core.Bool.{Bool, true, false, cond, ◌&&◌, ◌||◌}
-use mathlib.Core.Option.{some, none}
+use Rattle.std.specs.Prelude.{Some, None}
 use mathlib.Core.List.{List, [], ◌∷◌, ◌++◌, append_assoc}
 use Prim.Native.Nat.{ℕ, zero, suc, ◌+◌, ◌-◌, ◌<◌, ◌≤◌}
 use native.Mathlib.Omega.{arith}
@@ -54,7 +54,7 @@ word-head x w h = go (is_word x) refl h
 
 -- no fault from a state on, wherever it stands
 abbrev Fine : Expect → List ℕ → Type 0
-Fine e bs = (at : ℕ) → bad_from e at bs ≡ none
+Fine e bs = (at : ℕ) → bad_from e at bs ≡ None
 
 module _ (c : ℕ) (rest : List ℕ) where
   word-fine : (w : List ℕ) (n : ℕ) → length w ≡ suc n → leading is_word w ≡ length w → Fine (clauses_left c) rest → Fine (ClauseName n c) (w ++ rest)
@@ -62,7 +62,7 @@ module _ (c : ℕ) (rest : List ℕ) where
   word-fine [] n l e f at = absurd (omega arith)
   word-fine (x ∷ w) zero l e f at = go w (omega arith)
     where
-      go : (w : List ℕ) → length w ≡ 0 → bad_from (ClauseName 0 c) at (x ∷ w ++ rest) ≡ none
+      go : (w : List ℕ) → length w ≡ 0 → bad_from (ClauseName 0 c) at (x ∷ w ++ rest) ≡ None
       go [] l = rw (bad_from, (word-head x _ e).0) (f (suc at))
       go (y ∷ w) l = absurd (omega arith)
   word-fine (x ∷ w) (suc n) l e f at =
@@ -83,7 +83,7 @@ module _ (d c : ℕ) where
   last-fine rest [] n b l e f at = absurd (omega arith)
   last-fine rest (x ∷ w) zero b l e f at = go w (omega arith)
     where
-      go : (w : List ℕ) → length w ≡ 0 → bad_from (DirectiveName 0 b d c) at (x ∷ w ++ rest) ≡ none
+      go : (w : List ℕ) → length w ≡ 0 → bad_from (DirectiveName 0 b d c) at (x ∷ w ++ rest) ≡ None
       go [] l = rw (bad_from, (word-head x _ e).0) (f (suc at))
       go (y ∷ w) l = absurd (omega arith)
   last-fine rest (x ∷ w) (suc n) b l e f at =
@@ -143,9 +143,9 @@ record Byte (e : Expect) (at : ℕ) (bs : List ℕ) : Type 0 where
   is : bs ≡ b ∷ more
   next : Expect
   leads : stepped e b ≡ Next next
-  fine : bad_from next (suc at) more ≡ none
+  fine : bad_from next (suc at) more ≡ None
 
-byte : (e : Expect) (at : ℕ) (bs : List ℕ) → ended_at e at ≡ some at → bad_from e at bs ≡ none → Byte e at bs
+byte : (e : Expect) (at : ℕ) (bs : List ℕ) → ended_at e at ≡ Some at → bad_from e at bs ≡ None → Byte e at bs
 unfolding bad_from
 byte e at [] w h = never at (sym w ∙ h)
 byte e at (b ∷ bs) w h = go (stepped e b) refl
@@ -162,12 +162,12 @@ record Bytes (P : List ℕ → Type 0) (e : Expect) (n : ℕ) (bs : List ℕ) : 
   long : length name ≡ n
   shaped : P name
   at : ℕ
-  fine : bad_from e at more ≡ none
+  fine : bad_from e at more ≡ None
 
 abbrev AllWord : List ℕ → Type 0
 AllWord w = leading is_word w ≡ length w
 
-word_read : (n c at : ℕ) (bs : List ℕ) → bad_from (ClauseName n c) at bs ≡ none → Bytes AllWord (clauses_left c) (suc n) bs
+word_read : (n c at : ℕ) (bs : List ℕ) → bad_from (ClauseName n c) at bs ≡ None → Bytes AllWord (clauses_left c) (suc n) bs
 unfolding leading
 word_read zero c at bs h =
     let r = byte (ClauseName zero c) at bs refl h in
@@ -195,7 +195,7 @@ put : (P : List ℕ → Type 0) (front : List ℕ) (b : ℕ) (name more bs : Lis
     → P (front ++ length name ∷ name ++ more) → P bs
 put P front b name more bs e q p = rw (e, q) p
 
-clauses-read : (c at : ℕ) (bs : List ℕ) → bad_from (clauses_left c) at bs ≡ none → Clauses c bs
+clauses-read : (c at : ℕ) (bs : List ℕ) → bad_from (clauses_left c) at bs ≡ None → Clauses c bs
 unfolding bad_from
 clauses-read zero at [] h = G.none
 clauses-read zero at (b ∷ bs) h = never at h
@@ -237,7 +237,7 @@ shape-step false false x t e g s =
     let y : ◌≡◌ {A = ℕ} 0 1 = cc in
     absurd (omega arith)
 
-words-read : (n : ℕ) (w : Bool) (d c at : ℕ) (bs : List ℕ) → bad_from (DirectiveName n w d c) at bs ≡ none → Bytes (Shape w) (directives_left d c) (suc n) bs
+words-read : (n : ℕ) (w : Bool) (d c at : ℕ) (bs : List ℕ) → bad_from (DirectiveName n w d c) at bs ≡ None → Bytes (Shape w) (directives_left d c) (suc n) bs
 unfolding leading
 words-read zero w d c at bs h =
     let r = byte (DirectiveName zero w d c) at bs refl h in
@@ -257,7 +257,7 @@ words-read (suc n) w d c at bs h =
       fine = t.fine;
     }
 
-entries-read : (d c at : ℕ) (bs : List ℕ) → bad_from (directives_left d c) at bs ≡ none → Entries d c bs
+entries-read : (d c at : ℕ) (bs : List ℕ) → bad_from (directives_left d c) at bs ≡ None → Entries d c bs
 unfolding Shape
 entries-read zero c at bs h = clauses c bs (clauses-read c at bs h)
 entries-read (suc d) c at bs h =
@@ -275,9 +275,9 @@ record Head (i at : ℕ) (bs : List ℕ) : Type 0 where
   more : List ℕ
   is : bs ≡ b ∷ more
   good : is_header i b ≡ true
-  fine : bad_from (HeaderByte (i + 1)) (suc at) more ≡ none
+  fine : bad_from (HeaderByte (i + 1)) (suc at) more ≡ None
 
-head : (i at : ℕ) (bs : List ℕ) → ltb i 7 ≡ true → bad_from (HeaderByte i) at bs ≡ none → Head i at bs
+head : (i at : ℕ) (bs : List ℕ) → ltb i 7 ≡ true → bad_from (HeaderByte i) at bs ≡ None → Head i at bs
 head i at bs t h =
     let r = byte (HeaderByte i) at bs refl h in
     let k = when-next (is_header i r.b) _ _ r.leads in

@@ -2,7 +2,7 @@
 -- Assumes nothing.
 use mathlib.Core.Path.{◌≡◌, refl}
 use mathlib.Core.Bool.{false, Bool, true, ◌||◌, ◌&&◌}
-use mathlib.Core.Option.{Option, some, none}
+use Rattle.std.specs.Prelude.{Option, Some, None}
 use mathlib.Core.List.{List}
 use Prim.Native.Nat.{ℕ, zero, suc, ◌+◌, ◌-◌, ◌<◌, ◌≤◌}
 use native.Mathlib.Numerals.{add-one, unary_clauses}
@@ -19,7 +19,7 @@ use Rattle.bookform.specs.declared.Step.TheVariants.{Next, Bad}
 use Rattle.bookform.specs.Format.{is_length, clauses_left, directives_left, when_good, name_step, word_step, stepped, ended_at, bad_from}
 
 -- what cannot be, and what a good byte leads to
-pub never : {X : Type 0} (p : ℕ) → ◌≡◌ {A = Option ℕ} (some p) none → X
+pub never : {X : Type 0} (p : ℕ) → ◌≡◌ {A = Option ℕ} (Some p) None → X
 never p e = let z : ◌≡◌ {A = ℕ} 0 1 = cc in absurd (omega arith)
 
 pub when-next : (b : Bool) (e next : Expect) → when_good b e ≡ Next next → (b ≡ true) × (next ≡ e)
@@ -50,7 +50,7 @@ word_more (suc n) c b h = simp unary_clauses
 
 -- the byte at a place is bad, or leads on; or the book ends there
 module _ (bs : List ℕ) (e : Expect) (at : ℕ) where
-  pub bad-here : at < length bs → stepped e (get_or bs at 0) ≡ Bad → bad_from e at (drop at bs) ≡ some at
+  pub bad-here : at < length bs → stepped e (get_or bs at 0) ≡ Bad → bad_from e at (drop at bs) ≡ Some at
   unfolding bad_from
   bad-here h g = rw (drop-cons bs at 0, bad_from, g)
 

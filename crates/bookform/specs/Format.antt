@@ -1,6 +1,6 @@
 -- The form of a book, byte by byte: what may come next, and the first byte that may not.
 use Rattle.std.specs.Prelude.{ℕ, zero, suc, ◌+◌, ◌-◌, Bool, true, false, cond, ◌&&◌, ◌||◌, ◌≡◌, List, [], ◌∷◌, get_or, eqb, ltb, leb}
-use Rattle.std.proofs.Math.Option.{Option, some, none}
+use Rattle.std.specs.Prelude.{Option, Some, None}
 use Rattle.ascii.specs.Ascii.{within, is_word}
 use Rattle.ascii.specs.Text.{bytes}
 use Rattle.bookform.specs.declared.ClauseRule.TheVariants.{Bare, Parenthesized, Flexible, Unsupported}
@@ -72,20 +72,20 @@ stepped End b = Bad
 
 -- a book that ends here: whole, or cut at this place
 abbrev pub ended_at : Expect → ℕ → Option ℕ
-ended_at (HeaderByte i) at = some at
-ended_at (ClauseCount d) at = some at
-ended_at (DirectiveLength d c) at = some at
-ended_at (DirectiveName n w d c) at = some at
-ended_at (Rule c) at = some at
-ended_at (ClauseLength c) at = some at
-ended_at (ClauseName n c) at = some at
-ended_at End at = none
+ended_at (HeaderByte i) at = Some at
+ended_at (ClauseCount d) at = Some at
+ended_at (DirectiveLength d c) at = Some at
+ended_at (DirectiveName n w d c) at = Some at
+ended_at (Rule c) at = Some at
+ended_at (ClauseLength c) at = Some at
+ended_at (ClauseName n c) at = Some at
+ended_at End at = None
 
 -- row 4, "first bad byte, its end if cut", from place at on
 unfoldable pub bad_from : Expect → ℕ → List ℕ → Option ℕ
 bad_from e at [] = ended_at e at
-bad_from e at (b ∷ bs) = elim (stepped e b) [ Bad ↦ some at | Next e' ↦ bad_from e' (suc at) bs ]
+bad_from e at (b ∷ bs) = elim (stepped e b) [ Bad ↦ Some at | Next e' ↦ bad_from e' (suc at) bs ]
 
 -- "repeats aside": no byte of it is bad, and it is not cut
 abbrev pub HasForm : List ℕ → Type 0
-HasForm bs = bad_from (HeaderByte 0) 0 bs ≡ none
+HasForm bs = bad_from (HeaderByte 0) 0 bs ≡ None

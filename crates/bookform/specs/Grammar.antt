@@ -1,6 +1,6 @@
 -- The form of a book as document 01 puts it, entry after entry, with no word of reading it byte by byte.
 use Rattle.std.specs.Prelude.{ℕ, suc, ◌+◌, ◌<◌, ◌≤◌, ◌≡◌, Bool, true, ◌&&◌, List, [], ◌∷◌, ◌++◌, length, take, ltb}
-use Rattle.std.proofs.Math.Option.{some}
+use Rattle.std.specs.Prelude.{Some}
 use Rattle.ascii.specs.Ascii.{is_word}
 use Rattle.ascii.specs.Text.{bytes, leading}
 use Rattle.bookform.specs.declared.Expect.TheVariants.{HeaderByte}
@@ -58,5 +58,5 @@ Begins bs = (rest : List ℕ) × IsBook (bs ++ rest) × (are_bytes rest ≡ true
 -- begins with the bytes before it, and with any fewer of them.
 abbrev pub BadByteIsFirst : Type 0
 BadByteIsFirst =
-    (bs : List ℕ) (i : ℕ) → bad_from (HeaderByte 0) 0 bs ≡ some i
+    (bs : List ℕ) (i : ℕ) → bad_from (HeaderByte 0) 0 bs ≡ Some i
     → (i ≤ length bs) × (i < length bs → Begins (take (i + 1) bs) → ⊥) × ((k : ℕ) → k ≤ i → Begins (take k bs))

@@ -2,7 +2,7 @@
 -- A clause that is read has an entry of the shorter book, and that entry is found in the longer one too; so turn by turn. Assumes nothing.
 use Prim.Native.Nat.{ℕ, zero, suc, ◌+◌, ◌-◌, ◌<◌}
 use mathlib.Core.Bool.{Bool, false}
-use mathlib.Core.Option.{some}
+use Rattle.std.specs.Prelude.{Some}
 use mathlib.Core.Path.{◌≡◌, refl, ap, sym, ◌∙◌}
 use mathlib.Core.List.{List, [], ◌∷◌}
 use native.Mathlib.Omega.{arith}
@@ -53,7 +53,7 @@ module _ (b d : Book) (text : List ℕ) (same : b.ignores_case ≡ d.ignores_cas
 
 -- a clause and a sequence are read alike with names appended
 module _ (short long : Book) (a : IsAppended short long) (strict : short.default ≡ Unsupported) (text : List ℕ) where
-  found-kept : (at i : ℕ) → found short text at ≡ some i → found long text at ≡ some i
+  found-kept : (at i : ℕ) → found short text at ≡ Some i → found long text at ≡ Some i
   found-kept at i h = rw a.same_case (entry_from-appended short.clauses long.clauses a.more a.same_names _ _ _ _ h)
 
   clause-kept : (at : ℕ) (r : ClauseRecord) (after : ℕ) → clause_at short text at ≡ clause r after → clause_at long text at ≡ clause r after

@@ -2,7 +2,7 @@
 -- Each is its definition, rewritten by what the branch has learnt.
 use Prim.Native.Nat.{ℕ, suc, ◌+◌, ◌-◌, ◌≤◌, ◌<◌}
 use mathlib.Core.Bool.{Bool, true, false, cond}
-use mathlib.Core.Option.{Option, some, none}
+use Rattle.std.specs.Prelude.{Option, Some, None}
 use mathlib.Core.Path.{◌≡◌, refl, sym, ap, ◌∙◌}
 use mathlib.Core.List.{List}
 use native.Mathlib.Numerals.{add-one}
@@ -194,8 +194,8 @@ unfolding start_at
 start_is bk t left at h e = ap (λ (z : Header). begun_at t z left (skip z.ignores_case t at)) e
 
 fault-start : (bk t : List ℕ) (left : ℕ) (r : Refusal) (o : Option ℕ) → refused_by {A = Unit {0}} r ≡ unless_fault 4 o (given tt) → refused_start left r ≡ start_under bk t left o
-fault-start bk t left r none e = never _ _ _ tt e
-fault-start bk t left r (some p) e =
+fault-start bk t left r None e = never _ _ _ tt e
+fault-start bk t left r (Some p) e =
     let n : number_of r.reason ≡ 4 = cc in
     let z : r.place ≡ p = cc in
     let q : r.reason ≡ WrongBook = sym (reason-is r.reason) ∙ ap reason_of n in

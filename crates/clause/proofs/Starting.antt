@@ -2,7 +2,7 @@
 -- By cases on the checks before it, and on the trivia.
 use Prim.Native.Nat.{ℕ, ◌≤◌}
 use mathlib.Core.Bool.{Bool, true, false}
-use mathlib.Core.Option.{Option, some, none}
+use Rattle.std.specs.Prelude.{Option, Some, None}
 use mathlib.Core.Path.{◌≡◌, refl, ap}
 use mathlib.Core.List.{List}
 use native.Mathlib.Omega.{arith}
@@ -27,14 +27,14 @@ use Rattle.clause.proofs.Cleanness.{clean_end}
 use Rattle.clause.specs.Steps.{Started, begun_at, start_at, start_under, start_by, start_of, read_on, settled, sequence_into}
 
 -- a start behind trivia, under a valid book
-begun-started : (bk t : List ℕ) (left at : ℕ) (k : Skipped) → book_fault bk ≡ none → length t ≤ max_length → at ≤ length t → skip (header_of bk).ignores_case t at ≡ k
+begun-started : (bk t : List ℕ) (left at : ℕ) (k : Skipped) → book_fault bk ≡ None → length t ≤ max_length → at ≤ length t → skip (header_of bk).ignores_case t at ≡ k
     → Started bk t left (begun_at t (header_of bk) left k)
 begun-started bk t left at (Past p) v l h e =
     let b = skip-bounds (header_of bk).ignores_case t at p e in
     record { proper = record { valid = v; known = refl; short = l; inside = omega arith; fewer = omega arith; clean = clean_end (header_of bk).ignores_case t }; room = omega arith; none_yet = refl }
 begun-started bk t left at (OpenAt p) v l h e = record { proper = tt; room = omega arith; none_yet = refl }
 
-pub started-at : (bk t : List ℕ) (left at : ℕ) → book_fault bk ≡ none → length t ≤ max_length → at ≤ length t → Started bk t left (start_at bk t left at)
+pub started-at : (bk t : List ℕ) (left at : ℕ) → book_fault bk ≡ None → length t ≤ max_length → at ≤ length t → Started bk t left (start_at bk t left at)
 unfolding start_at
 started-at bk t left at v l h = begun-started bk t left at (skip (header_of bk).ignores_case t at) v l h refl
 
@@ -49,8 +49,8 @@ unfolding start_at
 reads_at bk t left at = begun-reads bk t left at (skip (header_of bk).ignores_case t at) refl
 
 under-started : (bk t : List ℕ) (left : ℕ) (o : Option ℕ) → book_fault bk ≡ o → length t ≤ max_length → Started bk t left (start_under bk t left o)
-under-started bk t left none e l = started-at bk t left 0 e l (omega arith)
-under-started bk t left (some p) e l = record { proper = tt; room = omega arith; none_yet = refl }
+under-started bk t left None e l = started-at bk t left 0 e l (omega arith)
+under-started bk t left (Some p) e l = record { proper = tt; room = omega arith; none_yet = refl }
 
 by-started : (bk t : List ℕ) (left : ℕ) (v : Verdict) → text_verdict t ≡ v → Started bk t left (start_by bk t left v)
 by-started bk t left Fine e = under-started bk t left (book_fault bk) refl (admits-length t e)
@@ -62,12 +62,12 @@ started_of bk t left = by-started bk t left (text_verdict t) refl
 
 -- the refusals before it
 under-reads : (bk t : List ℕ) (left : ℕ) (o : Option ℕ) → read_on bk t (start_under bk t left o) ≡ unless_fault 4 o (sequence_at (book_of bk) t left 0)
-under-reads bk t left none = reads_at bk t left 0
-under-reads bk t left (some p) = refl
+under-reads bk t left None = reads_at bk t left 0
+under-reads bk t left (Some p) = refl
 
 high-reads : (bk t : List ℕ) (left : ℕ) (o : Option ℕ) → read_on bk t (start_by bk t left (fault_by HighByte o)) ≡ unless_fault 2 o (unless_fault 4 (book_fault bk) (sequence_at (book_of bk) t left 0))
-high-reads bk t left none = under-reads bk t left (book_fault bk)
-high-reads bk t left (some p) = refl
+high-reads bk t left None = under-reads bk t left (book_fault bk)
+high-reads bk t left (Some p) = refl
 
 pub reads_of : (bk t : List ℕ) (left : ℕ) → read_on bk t (start_of bk t left) ≡ admitted t (unless_fault 4 (book_fault bk) (sequence_at (book_of bk) t left 0))
 unfolding start_of text_verdict

@@ -2,7 +2,7 @@
 -- Each step of a turn is taken apart by what it gives. Assumes nothing.
 use Prim.Native.Nat.{ℕ, zero, suc, ◌+◌, ◌-◌}
 use mathlib.Core.Bool.{Bool, true, false, cond, ◌&&◌}
-use mathlib.Core.Option.{Option, some, none}
+use Rattle.std.specs.Prelude.{Option, Some, None}
 use mathlib.Core.Path.{◌≡◌, refl}
 use mathlib.Core.List.{List, ◌∷◌}
 use native.Mathlib.Omega.{arith}
@@ -53,17 +53,17 @@ module _ (text : List ℕ) (start end i : ℕ) where
 
 -- under default Unsupported a clause that is read has an entry in the book
 pub clause-found : (book : Book) (text : List ℕ) (at : ℕ) (r : ClauseRecord) (after : ℕ) → book.default ≡ Unsupported → clause_at book text at ≡ clause r after
-    → (i : ℕ) × (found book text at ≡ some i) × (r.entry ≡ i)
+    → (i : ℕ) × (found book text at ≡ Some i) × (r.entry ≡ i)
 unfolding clause_at
 clause-found book text at r after strict h = go (eqb (word_length book text at) 0) (found book text at) refl (rw strict at h)
   where
     go : (b : Bool) (o : Option ℕ) → found book text at ≡ o
         → cond b (failed 10 at) (argument book text at (at + word_length book text at) (index_or o) (rule_or Unsupported o book.clauses) (skip book.ignores_case text (at + word_length book text at)))
         ≡ clause r after
-        → (i : ℕ) × (found book text at ≡ some i) × (r.entry ≡ i)
+        → (i : ℕ) × (found book text at ≡ Some i) × (r.entry ≡ i)
     go true o e h = let z : ◌≡◌ {A = ℕ} 0 1 = cc in absurd (omega arith)
-    go false none e h = let z : ◌≡◌ {A = ℕ} 0 1 = cc in absurd (omega arith)
-    go false (some i) e h =
+    go false None e h = let z : ◌≡◌ {A = ℕ} 0 1 = cc in absurd (omega arith)
+    go false (Some i) e h =
         (i, e, rw h at (argument-entry text at (at + word_length book text at) i book (rule_at Unsupported i book.clauses) (skip book.ignores_case text (at + word_length book text at))))
 
 -- A turn of the sequence: a clause is read, there is a slot for it, and what follows it is no open comment.

@@ -1,7 +1,7 @@
 -- One clause: its word, its rule under the book, and its argument.
 use Rattle.std.specs.Prelude.{ℕ, suc, ◌+◌, ◌-◌, true, false, List, take, drop, eqb}
 use Rattle.std.proofs.Math.Bool.{cond}
-use Rattle.std.proofs.Math.Option.{Option}
+use Rattle.std.specs.Prelude.{Option}
 use Rattle.ascii.specs.Ascii.{is_word}
 use Rattle.ascii.specs.Text.{starts, leading, trimmed}
 use Rattle.ascii.specs.declared.Range.{Range}

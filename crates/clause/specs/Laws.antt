@@ -1,6 +1,6 @@
 -- What is to hold of the clause sequence under default Unsupported. These are statements; their proofs are theorems of these types.
 use Rattle.std.specs.Prelude.{ℕ, ◌<◌, ◌≡◌, List, length, get_or}
-use Rattle.std.proofs.Math.Option.{none}
+use Rattle.std.specs.Prelude.{None}
 use Rattle.refusal.specs.Answer.{given}
 use Rattle.bookform.specs.declared.ClauseRule.TheVariants.{Unsupported}
 use Rattle.rulebook.specs.Book.{book_of}
@@ -26,6 +26,6 @@ StrictSequencesAreWhole = (book text : List ℕ) (size : ℕ) (end : SequenceEnd
 -- the same, the answer and every record slot. "About the whole run of appended names."
 abbrev pub AppendedNamesKeepSequences : Type 0
 AppendedNamesKeepSequences = (short long text : List ℕ) (size : ℕ) (end : SequenceEnd)
-    → book_fault short ≡ none → book_fault long ≡ none → IsAppended (book_of short) (book_of long) → (book_of short).default ≡ Unsupported
+    → book_fault short ≡ None → book_fault long ≡ None → IsAppended (book_of short) (book_of long) → (book_of short).default ≡ Unsupported
     → (sequence_call short text size).answer ≡ given end
     → sequence_call long text size ≡ sequence_call short text size

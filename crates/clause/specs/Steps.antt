@@ -1,6 +1,6 @@
 -- The sequence step by step: a state by value, the state after one clause more, and the record that each step gives to its slot.
 use Rattle.std.specs.Prelude.{ℕ, zero, suc, ◌+◌, ◌-◌, ◌≤◌, ◌<◌, Bool, true, false, cond, ◌&&◌, ◌≡◌, List, [], ◌∷◌, length, drop, get_or, eqb}
-use Rattle.std.proofs.Math.Option.{Option, some, none}
+use Rattle.std.specs.Prelude.{Option, Some, None}
 use Rattle.refusal.specs.declared.Reason.{Reason}
 use Rattle.refusal.specs.declared.Reason.TheVariants.{TooLong, HighByte, ShortBuffer, WrongBook, WrongLanguage, InvalidLine, NoOpening, UnclosedComment, NoDirective, NoClause, NoParenthesis, Unmatched, TooDeep, NoSlot, EmptyItem, UnclosedQuote, WrongClosing, UnclosedBracket, BadSpan}
 use Rattle.refusal.specs.declared.Refusal.{Refusal}
@@ -139,7 +139,7 @@ records_from book text s i (suc n) = (state_at book text s (suc i)).clause ∷ r
 
 -- what a state that goes on rests on: a valid book, its header, and a place of a text that is not too long
 pub record Ready (book text : List ℕ) (s : SequenceState) : Type 0 where
-  pub valid : book_fault book ≡ none
+  pub valid : book_fault book ≡ None
   pub known : s.header ≡ header_of book
   pub short : length text ≤ max_length
   pub inside : s.at ≤ length text
@@ -177,8 +177,8 @@ abbrev pub refused_start : ℕ → Refusal → SequenceState
 refused_start left r = begun no_header (Refused r) 0 left 0
 
 abbrev pub start_under : List ℕ → List ℕ → ℕ → Option ℕ → SequenceState
-start_under book text left none = start_at book text left 0
-start_under book text left (some p) = refused_start left (record { reason = WrongBook; place = p })
+start_under book text left None = start_at book text left 0
+start_under book text left (Some p) = refused_start left (record { reason = WrongBook; place = p })
 
 abbrev pub start_by : List ℕ → List ℕ → ℕ → Verdict → SequenceState
 start_by book text left Fine = start_under book text left (book_fault book)

@@ -1,6 +1,5 @@
 // One clause: its word, its entry and rule under the book, and its argument.
 ghost use Rattle.std.specs.Prelude.{◌≡◌, true, cond, suc, ◌≤◌, ◌<◌, length, drop};
-ghost use Rattle.std.proofs.Math.Option.{none};
 ghost use Rattle.refusal.specs.Answer.{max_length};
 ghost use Rattle.code.specs.Matching.{matching};
 ghost use Rattle.lexer.specs.Trivia.{skip};
@@ -148,7 +147,7 @@ pub fn read_clause(
     at: usize,
     clean: usize,
 ) -> ClauseRead
-    requires book_value { (book_fault book.now ≡ none) × ((header ≡ header_of book.now) × ((length text.now ≤ max_length) × (at ≤ length text.now))) }
+    requires book_value { (book_fault book.now ≡ None) × ((header ≡ header_of book.now) × ((length text.now ≤ max_length) × (at ≤ length text.now))) }
     requires looked { Looked header.clauses book.now index.now }
     requires clean { Clean header.ignores_case text.now clean }
     ensures { read_of result ≡ clause_at (book_of book.now) text.now at }

@@ -2,7 +2,7 @@
 -- Assumes nothing.
 use mathlib.Core.Path.{◌≡◌, refl, ap, ◌∙◌}
 use mathlib.Core.Bool.{Bool, true, false, cond, not, ◌&&◌, ◌||◌}
-use mathlib.Core.Option.{Option, some, none}
+use Rattle.std.specs.Prelude.{Option, Some, None}
 use mathlib.Core.List.{List, [], ◌∷◌}
 use Prim.Native.Nat.{ℕ, zero, suc, ◌+◌, ◌-◌, ◌<◌, ◌≤◌, suc-le-suc}
 use native.Mathlib.Nat.{add-zero}
@@ -21,25 +21,25 @@ use Rattle.code.specs.declared.Unclosed.TheVariants.{Nothing, Quote, Comment}
 use Rattle.code.specs.Code.{is_c_like, is_fortran, hides_next, more, literal, block_end, quoted, commented, slashed, banged, piece, rest, placed, scan_from, scan_at, onward}
 
 pub more-more : (a b : ℕ) (o : Option ℕ) → more a (more b o) ≡ more (a + b) o
-more-more a b none = refl
-more-more a b (some k) = ap some (omega arith)
+more-more a b None = refl
+more-more a b (Some k) = ap Some (omega arith)
 
 -- a literal and a block comment by the end that is found for them
-pub quoted-before : (at e : ℕ) (o : Option ℕ) → some e ≡ more (at + 1) o → Hidden (e - at) ≡ quoted o
-quoted-before at e none h = absurd (let z : ◌≡◌ {A = ℕ} 0 1 = cc in omega arith)
-quoted-before at e (some n) h = let f : e ≡ at + 1 + n = cc in ap Hidden (omega arith)
+pub quoted-before : (at e : ℕ) (o : Option ℕ) → Some e ≡ more (at + 1) o → Hidden (e - at) ≡ quoted o
+quoted-before at e None h = absurd (let z : ◌≡◌ {A = ℕ} 0 1 = cc in omega arith)
+quoted-before at e (Some n) h = let f : e ≡ at + 1 + n = cc in ap Hidden (omega arith)
 
-pub quoted-never : (k : ℕ) (o : Option ℕ) → none ≡ more k o → OpenQuote ≡ quoted o
-quoted-never k none h = refl
-quoted-never k (some n) h = absurd (let z : ◌≡◌ {A = ℕ} 0 1 = cc in omega arith)
+pub quoted-never : (k : ℕ) (o : Option ℕ) → None ≡ more k o → OpenQuote ≡ quoted o
+quoted-never k None h = refl
+quoted-never k (Some n) h = absurd (let z : ◌≡◌ {A = ℕ} 0 1 = cc in omega arith)
 
-pub commented-before : (at e : ℕ) (o : Option ℕ) → some e ≡ more (at + 2) o → Hidden (e - at) ≡ commented o
-commented-before at e none h = absurd (let z : ◌≡◌ {A = ℕ} 0 1 = cc in omega arith)
-commented-before at e (some n) h = let f : e ≡ at + 2 + n = cc in ap Hidden (omega arith)
+pub commented-before : (at e : ℕ) (o : Option ℕ) → Some e ≡ more (at + 2) o → Hidden (e - at) ≡ commented o
+commented-before at e None h = absurd (let z : ◌≡◌ {A = ℕ} 0 1 = cc in omega arith)
+commented-before at e (Some n) h = let f : e ≡ at + 2 + n = cc in ap Hidden (omega arith)
 
-pub commented-never : (k : ℕ) (o : Option ℕ) → none ≡ more k o → OpenComment ≡ commented o
-commented-never k none h = refl
-commented-never k (some n) h = absurd (let z : ◌≡◌ {A = ℕ} 0 1 = cc in omega arith)
+pub commented-never : (k : ℕ) (o : Option ℕ) → None ≡ more k o → OpenComment ≡ commented o
+commented-never k None h = refl
+commented-never k (Some n) h = absurd (let z : ◌≡◌ {A = ℕ} 0 1 = cc in omega arith)
 
 -- a text from one of its places on, and the byte after that
 module _ (s : List ℕ) (i : ℕ) where
@@ -72,7 +72,7 @@ module _ (style : CommentStyle) (q x : ℕ) (xs : List ℕ) where
   unfolding literal
   both e = rw (e) (ap (more 1) (pass-one xs) ∙ more-more 1 1 (literal style q 0 (drop 1 xs)))
 
-  closed : hides_next style q x (get_or xs 0 0) ≡ false → eqb x q ≡ true → literal style q 0 (x ∷ xs) ≡ some 1
+  closed : hides_next style q x (get_or xs 0 0) ≡ false → eqb x q ≡ true → literal style q 0 (x ∷ xs) ≡ Some 1
   unfolding literal
   closed e f = rw (e, f) refl
 
@@ -88,7 +88,7 @@ module _ (style : CommentStyle) (q : ℕ) (s : List ℕ) (i : ℕ) where
   literal-both h e =
       rw (drop_at s i h, both style q (get_or s i 0) (drop (i + 1) s) (rw (head_at s (i + 1)) e), drop-two s i) (more-more i 2 (literal style q 0 (drop (i + 2) s)))
 
-  pub literal-closed : i < length s → hidden ≡ false → eqb (get_or s i 0) q ≡ true → more i (literal style q 0 (drop i s)) ≡ some (i + 1)
+  pub literal-closed : i < length s → hidden ≡ false → eqb (get_or s i 0) q ≡ true → more i (literal style q 0 (drop i s)) ≡ Some (i + 1)
   literal-closed h e f = rw (drop_at s i h, closed style q (get_or s i 0) (drop (i + 1) s) (rw (head_at s (i + 1)) e) f) refl
 
   pub literal-plain : i < length s → hidden ≡ false → eqb (get_or s i 0) q ≡ false
@@ -96,13 +96,13 @@ module _ (style : CommentStyle) (q : ℕ) (s : List ℕ) (i : ℕ) where
   literal-plain h e f =
       rw (drop_at s i h, plain style q (get_or s i 0) (drop (i + 1) s) (rw (head_at s (i + 1)) e) f) (more-more i 1 (literal style q 0 (drop (i + 1) s)))
 
-  pub literal-end : length s ≤ i → more i (literal style q 0 (drop i s)) ≡ none
+  pub literal-end : length s ≤ i → more i (literal style q 0 (drop i s)) ≡ None
   unfolding literal
   literal-end h = rw (drop_of_length-le s h)
 
 -- block comments
 module _ (s : List ℕ) (i : ℕ) where
-  pub block_closed : i < length s → (eqb (get_or s i 0) 42 && eqb (get_or s (i + 1) 0) 47) ≡ true → more i (block_end (drop i s)) ≡ some (i + 2)
+  pub block_closed : i < length s → (eqb (get_or s i 0) 42 && eqb (get_or s (i + 1) 0) 47) ≡ true → more i (block_end (drop i s)) ≡ Some (i + 2)
   unfolding block_end
   block_closed h e = rw (drop_at s i h, head_at s (i + 1), e) refl
 
@@ -114,7 +114,7 @@ module _ (s : List ℕ) (i : ℕ) where
   pub block_within : (eqb (get_or s i 0) 42 && eqb (get_or s (i + 1) 0) 47) ≡ true → i + 1 < length s
   block_within e = inside s (i + 1) 47 (omega arith) (eqb-true _ _ (and_right (eqb (get_or s i 0) 42) _ e))
 
-  pub block_none : length s ≤ i → more i (block_end (drop i s)) ≡ none
+  pub block_none : length s ≤ i → more i (block_end (drop i s)) ≡ None
   unfolding block_end
   block_none h = rw (drop_of_length-le s h)
 

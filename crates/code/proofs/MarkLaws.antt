@@ -2,7 +2,7 @@
 -- Assumes nothing.
 use mathlib.Core.Path.{◌≡◌, refl, ap, ◌∙◌}
 use mathlib.Core.Bool.{Bool, true, false, cond, not, ◌&&◌, ◌||◌}
-use mathlib.Core.Option.{Option, some, none}
+use Rattle.std.specs.Prelude.{Option, Some, None}
 use mathlib.Core.List.{List, [], ◌∷◌}
 use Prim.Native.Nat.{ℕ, zero, suc, ◌+◌, ◌-◌, ◌*◌, ◌/◌, ◌%◌, ◌^◌, ◌<◌, ◌≤◌}
 use native.Mathlib.Nat.{add-zero, pow-zero, pow-succ', mul_assoc, div-div-eq-div-mul, div-one}
@@ -89,13 +89,13 @@ module _ (style : CommentStyle) (s : List ℕ) (i : ℕ) where
 
   pub clean-quote : (o : Option ℕ) → i < length s → piece style (drop i s) ≡ quoted o → clean style s i ≡ ends (more (i + 1) o)
   unfolding clean
-  clean-quote none h e = ap told (scan-quote style s i h e)
-  clean-quote (some n) h e = clean-hidden (1 + n) h e (omega arith) ∙ ap (clean style s) (omega arith)
+  clean-quote None h e = ap told (scan-quote style s i h e)
+  clean-quote (Some n) h e = clean-hidden (1 + n) h e (omega arith) ∙ ap (clean style s) (omega arith)
 
   pub clean-block : (o : Option ℕ) → i < length s → piece style (drop i s) ≡ commented o → clean style s i ≡ ends (more (i + 2) o)
   unfolding clean
-  clean-block none h e = ap told (scan-comment style s i h e)
-  clean-block (some n) h e = clean-hidden (2 + n) h e (omega arith) ∙ ap (clean style s) (omega arith)
+  clean-block None h e = ap told (scan-comment style s i h e)
+  clean-block (Some n) h e = clean-hidden (2 + n) h e (omega arith) ∙ ap (clean style s) (omega arith)
 
   pub clean_line : (k : ℕ) → i < length s → piece style (drop i s) ≡ Hidden (k + up_to is_eol (drop (i + k) s)) → 0 < k → clean style s i ≡ line_clean style s (i + k)
   clean_line k h e p = clean-hidden (k + up_to is_eol (drop (i + k) s)) h e (omega arith) ∙ ap (clean style s) (omega arith)

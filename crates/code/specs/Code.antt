@@ -1,6 +1,6 @@
 -- Code bytes: what stands outside of quoted literals and comments ("quotes being invisible").
 use Rattle.std.specs.Prelude.{ℕ, zero, suc, ◌+◌, ◌-◌, ◌≤◌, ◌<◌, Bool, true, false, cond, not, ◌&&◌, ◌||◌, List, [], ◌∷◌, length, drop, get_or, eqb, ltb}
-use Rattle.std.proofs.Math.Option.{Option, some, none}
+use Rattle.std.specs.Prelude.{Option, Some, None}
 use Rattle.ascii.specs.Ascii.{is_eol}
 use Rattle.ascii.specs.Text.{starts, up_to}
 use Rattle.code.specs.declared.CommentStyle.{CommentStyle}
@@ -34,13 +34,13 @@ has_escapes FortranBlock = false
 
 -- n bytes more, if there is an end
 abbrev pub more : ℕ → Option ℕ → Option ℕ
-more n none = none
-more n (some k) = some (n + k)
+more n None = None
+more n (Some k) = Some (n + k)
 
 -- the declared end as the place after it
 abbrev pub end_of : End → Option ℕ
-end_of (Before k) = some k
-end_of Never = none
+end_of (Before k) = Some k
+end_of Never = None
 
 -- the quote rule: byte x of a literal in q keeps the one after it inside, if it is a backslash and the style has escapes, or the first of a doubled quote
 abbrev pub hides_next : CommentStyle → ℕ → ℕ → ℕ → Bool
@@ -49,25 +49,25 @@ hides_next style q x next = (has_escapes style && eqb x 92) || (eqb x q && eqb n
 -- `code_chars`, quotes: the bytes of a literal after its opening quote q, the closing one included, once k bytes are passed over;
 -- none if it has no end
 unfoldable pub literal : CommentStyle → ℕ → ℕ → List ℕ → Option ℕ
-literal style q zero [] = none
-literal style q (suc k) [] = none
+literal style q zero [] = None
+literal style q (suc k) [] = None
 literal style q (suc k) (x ∷ xs) = more 1 (literal style q k xs)
 literal style q zero (x ∷ xs) =
     cond (hides_next style q x (get_or xs 0 0)) (more 1 (literal style q 1 xs))
-    (cond (eqb x q) (some 1) (more 1 (literal style q zero xs)))
+    (cond (eqb x q) (Some 1) (more 1 (literal style q zero xs)))
 
 -- `code_chars`, block comments: the bytes of one after its opening, the closing included; none if it has no end
 unfoldable pub block_end : List ℕ → Option ℕ
-block_end [] = none
-block_end (x ∷ xs) = cond (eqb x 42 && starts 47 xs) (some 2) (more 1 (block_end xs))
+block_end [] = None
+block_end (x ∷ xs) = cond (eqb x 42 && starts 47 xs) (Some 2) (more 1 (block_end xs))
 
 abbrev pub quoted : Option ℕ → Piece
-quoted none = OpenQuote
-quoted (some n) = Hidden (1 + n)
+quoted None = OpenQuote
+quoted (Some n) = Hidden (1 + n)
 
 abbrev pub commented : Option ℕ → Piece
-commented none = OpenComment
-commented (some n) = Hidden (2 + n)
+commented None = OpenComment
+commented (Some n) = Hidden (2 + n)
 
 -- what `/` before a text begins. Line comments go up to and with LF or CR.
 abbrev pub slashed : CommentStyle → List ℕ → Piece

@@ -1,6 +1,6 @@
 -- From which places of a text on nothing is unclosed, told from the back of the text: a matter of speed, no rule of document 01.
 use Rattle.std.specs.Prelude.{ℕ, zero, suc, ◌+◌, ◌*◌, ◌/◌, ◌≤◌, ◌<◌, ◌≡◌, Bool, true, false, cond, not, ◌&&◌, List, eqb, length, drop, get_or}
-use Rattle.std.proofs.Math.Option.{Option, some, none}
+use Rattle.std.specs.Prelude.{Option, Some, None}
 use Rattle.ascii.specs.Ascii.{is_eol}
 use Rattle.ascii.specs.Text.{up_to}
 use Rattle.code.specs.declared.CommentStyle.{CommentStyle}
@@ -25,8 +25,8 @@ module _ (style : CommentStyle) (text : List ℕ) where
 
   -- from where something ends on; what has no end is unclosed itself
   abbrev pub ends_clean : Option ℕ → Bool
-  ends_clean none = false
-  ends_clean (some p) = clean p
+  ends_clean None = false
+  ends_clean (Some p) = clean p
 
   -- the same where the place stands inside a literal in q, a block comment, a line comment
   abbrev pub quote_clean : ℕ → ℕ → Bool

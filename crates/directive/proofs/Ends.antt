@@ -2,7 +2,7 @@
 -- Each word does, so by induction over what is left of the text. Assumes nothing.
 use Prim.Native.Nat.{ℕ, zero, suc, ◌+◌, ◌-◌, ◌≤◌}
 use mathlib.Core.Bool.{◌&&◌, cond}
-use mathlib.Core.Option.{Option, some, none}
+use Rattle.std.specs.Prelude.{Option, Some, None}
 use mathlib.Core.Path.{◌≡◌, refl}
 use mathlib.Core.List.{List, [], ◌∷◌}
 use native.Mathlib.Omega.{arith}
@@ -19,19 +19,19 @@ use Rattle.directive.specs.declared.DirectiveName.{DirectiveName}
 use Rattle.directive.specs.Name.{entry_of, may_grow, Candidate, latest, extended, or_missing, starts_word, word_of, name_from, named, name_at}
 
 abbrev EndsBy : ℕ → Option Candidate → Type 0
-EndsBy n none = Unit {0}
-EndsBy n (some f) = f.end ≤ n
+EndsBy n None = Unit {0}
+EndsBy n (Some f) = f.end ≤ n
 
 abbrev EndsIn : ℕ → Answer Candidate → Type 0
 EndsIn n x = Sure {A = Candidate} (λ f. f.end ≤ n) x
 
 latest-end : (n : ℕ) (o : Option ℕ) (end : ℕ) (before : Option Candidate) → end ≤ n → EndsBy n before → EndsBy n (latest o end before)
-latest-end n none end before e h = h
-latest-end n (some i) end before e h = e
+latest-end n None end before e h = h
+latest-end n (Some i) end before e h = e
 
 missing-end : (n from : ℕ) (f : Option Candidate) → EndsBy n f → EndsIn n (or_missing from f)
-missing-end n from none h = tt
-missing-end n from (some f) h = h
+missing-end n from None h = tt
+missing-end n from (Some f) h = h
 
 module _ (book : Book) (text : List ℕ) (from : ℕ) where
   name_from-end : (candidate : List ℕ) (before : Option Candidate) (k at : ℕ) (xs : List ℕ)
@@ -74,5 +74,5 @@ name_at-end book text at n = go (skip book.ignores_case text at) refl
     go (Past p) e =
         let b = skip-bounds book.ignores_case text at p e in
         let q : p + length (drop p text) ≡ length text = simp length-drop (omega arith) in
-        rw (name_at, e) (named_end (length text) p (name_from book text at [] none zero p (drop p text)) (name_from-end book text at [] none zero p (drop p text) q tt))
+        rw (name_at, e) (named_end (length text) p (name_from book text at [] None zero p (drop p text)) (name_from-end book text at [] None zero p (drop p text) q tt))
     go (OpenAt p) e = rw (name_at, e) tt

@@ -2,7 +2,7 @@
 -- By induction over the name and over the entries. Assumes nothing.
 use Prim.Native.Nat.{ℕ, suc}
 use mathlib.Core.Bool.{Bool, true, false, cond, ◌&&◌, ◌||◌}
-use mathlib.Core.Option.{Option, some, none}
+use Rattle.std.specs.Prelude.{Option, Some, None}
 use mathlib.Core.Path.{◌≡◌, refl}
 use mathlib.Core.List.{List, [], ◌∷◌, ◌++◌, append_assoc, append-nil}
 use native.Mathlib.Omega.{arith}
@@ -17,7 +17,7 @@ or-true true = refl
 or-true false = refl
 
 -- nothing is not something
-absent : {X : Type 0} (i : ℕ) → none ≡ some i → X
+absent : {X : Type 0} (i : ℕ) → None ≡ Some i → X
 absent i e = absurd (let z : ◌≡◌ {A = ℕ} 0 1 = cc in omega arith)
 
 module _ (same : List ℕ → List ℕ → Bool) (c : List ℕ) where
@@ -36,32 +36,32 @@ module _ (same : List ℕ → List ℕ → Bool) (c : List ℕ) where
   later e es h = rw h (or-true (head_from same [] e.name c))
 
 -- by the first of the entries
-exact : (f : ℕ → ℕ) (c : List ℕ) (i k : ℕ) (es : List Entry) → entry_from f i c es ≡ some k → is_head (same_by f) c es ≡ true
+exact : (f : ℕ → ℕ) (c : List ℕ) (i k : ℕ) (es : List Entry) → entry_from f i c es ≡ Some k → is_head (same_by f) c es ≡ true
 unfolding entry_from
 exact f c i k [] e = absent k e
 exact f c i k (x ∷ es) e = go (exact f c (suc i) k es) (same_by f x.name c) refl e
   where
-    go : (entry_from f (suc i) c es ≡ some k → is_head (same_by f) c es ≡ true) → (b : Bool) → same_by f x.name c ≡ b → cond b (some i) (entry_from f (suc i) c es) ≡ some k → is_head (same_by f) c (x ∷ es) ≡ true
+    go : (entry_from f (suc i) c es ≡ Some k → is_head (same_by f) c es ≡ true) → (b : Bool) → same_by f x.name c ≡ b → cond b (Some i) (entry_from f (suc i) c es) ≡ Some k → is_head (same_by f) c (x ∷ es) ≡ true
     go again true h e = here (same_by f) c x es h
     go again false h e = later (same_by f) c x es (again e)
 
-compactly : (c : List ℕ) (i k : ℕ) (es : List Entry) → only (entries_with (λ n. same_compact n c) i es) ≡ some k → is_head same_compact c es ≡ true
+compactly : (c : List ℕ) (i k : ℕ) (es : List Entry) → only (entries_with (λ n. same_compact n c) i es) ≡ Some k → is_head same_compact c es ≡ true
 unfolding entries_with
 compactly c i k [] e = absent k e
 compactly c i k (x ∷ es) e = go (compactly c (suc i) k es) (same_compact x.name c) refl e
   where
-    go : (only (entries_with (λ n. same_compact n c) (suc i) es) ≡ some k → is_head same_compact c es ≡ true) → (b : Bool) → same_compact x.name c ≡ b → only (cond b (i ∷ entries_with (λ n. same_compact n c) (suc i) es) (entries_with (λ n. same_compact n c) (suc i) es)) ≡ some k
+    go : (only (entries_with (λ n. same_compact n c) (suc i) es) ≡ Some k → is_head same_compact c es ≡ true) → (b : Bool) → same_compact x.name c ≡ b → only (cond b (i ∷ entries_with (λ n. same_compact n c) (suc i) es) (entries_with (λ n. same_compact n c) (suc i) es)) ≡ Some k
         → is_head same_compact c (x ∷ es) ≡ true
     go again true h e = here same_compact c x es h
     go again false h e = later same_compact c x es (again e)
 
-either : (optional : Bool) (a b : Option ℕ) (p q : Bool) (k : ℕ) → ((i : ℕ) → a ≡ some i → p ≡ true) → ((i : ℕ) → b ≡ some i → q ≡ true)
-    → or_compact optional a b ≡ some k → (p || (optional && q)) ≡ true
-either optional (some i) b p q k f g e = rw (f i refl)
-either true none b p q k f g e = rw (g k e) (or-true p)
-either false none b p q k f g e = absent k e
+either : (optional : Bool) (a b : Option ℕ) (p q : Bool) (k : ℕ) → ((i : ℕ) → a ≡ Some i → p ≡ true) → ((i : ℕ) → b ≡ Some i → q ≡ true)
+    → or_compact optional a b ≡ Some k → (p || (optional && q)) ≡ true
+either optional (Some i) b p q k f g e = rw (f i refl)
+either true None b p q k f g e = rw (g k e) (or-true p)
+either false None b p q k f g e = absent k e
 
-pub named-grows : (book : Book) (c : List ℕ) (k : ℕ) → entry_of book c ≡ some k → may_grow book c ≡ true
+pub named-grows : (book : Book) (c : List ℕ) (k : ℕ) → entry_of book c ≡ Some k → may_grow book c ≡ true
 unfolding entry_of may_grow
 named-grows book c k e =
     either book.optional_blanks (entry_from (comparison book) 0 c book.directives) (only (entries_with (λ n. same_compact n c) 0 book.directives))

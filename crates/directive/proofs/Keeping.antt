@@ -1,7 +1,7 @@
 -- Laws of the candidate in its buffer: a part of a text that is copied byte by byte, and a word that is added.
 -- Assumes nothing.
 use mathlib.Core.Path.{◌≡◌, refl, sym, ◌∙◌}
-use mathlib.Core.Option.{some, none}
+use Rattle.std.specs.Prelude.{Some, None}
 use mathlib.Core.List.{List, [], ◌∷◌, ◌++◌}
 use Prim.Native.Nat.{ℕ, ◌+◌, ◌-◌, ◌<◌, ◌≤◌}
 use native.Mathlib.Omega.{arith}
@@ -16,10 +16,10 @@ module _ (s : List ℕ) (i end : ℕ) where
   pub part_length : i ≤ end → end ≤ length s → length (take (end - i) (drop i s)) ≡ end - i
   part_length h g = simp (length-take, length-drop) (omega arith)
 
-pub fitting-some : (c : List ℕ) → length c ≤ 512 → fitting c ≡ some c
+pub fitting-some : (c : List ℕ) → length c ≤ 512 → fitting c ≡ Some c
 fitting-some c h = rw (le-leb _ _ h)
 
-pub fitting-none : (c : List ℕ) → 512 < length c → fitting c ≡ none
+pub fitting-none : (c : List ℕ) → 512 < length c → fitting c ≡ None
 fitting-none c h = rw (lt-leb _ _ h)
 
 -- the first n bytes of the buffer are the candidate
@@ -37,7 +37,7 @@ module _ (b w : List ℕ) (n : ℕ) (h : n ≡ 0 → ⊥) where
       let l = length-take-le n b (omega arith) in
       pushed b n 32 w g ∙ sym (extended-some (take n b) w (λ z. h (sym l ∙ z)))
 
-  pub grown-long : n ≤ length b → 512 ≤ n → fitting (extended (take n b) w) ≡ none
+  pub grown-long : n ≤ length b → 512 ≤ n → fitting (extended (take n b) w) ≡ None
   grown-long g m =
       let l = length-take-le n b g in
       rw (extended-some (take n b) w (λ z. h (sym l ∙ z))) (fitting-none (take n b ++ (32 ∷ w)) (simp length-append (omega arith)))

@@ -2,7 +2,7 @@
 -- has no more blanks than other bytes. So what is said of the candidate that a buffer keeps holds of every candidate. Assumes nothing.
 use mathlib.Core.Path.{◌≡◌, refl, sym, ◌∙◌}
 use mathlib.Core.Bool.{Bool, true, false, cond, ◌&&◌, ◌||◌, true≢false}
-use mathlib.Core.Option.{none}
+use Rattle.std.specs.Prelude.{None}
 use mathlib.Core.List.{List, [], ◌∷◌, ◌++◌}
 use Prim.Native.Nat.{ℕ, zero, suc, ◌+◌, ◌*◌, ◌<◌, ◌≤◌}
 use native.Mathlib.Omega.{arith}
@@ -116,7 +116,7 @@ module _ (same : List ℕ → List ℕ → Bool) (c : List ℕ) (far : (a : List
   with-far i [] s = refl
   with-far i (e ∷ es) s = rw (far e.name s.0, with-far (suc i) es s.1)
 
-entry-far : (f : ℕ → ℕ) (c : List ℕ) → 255 < length c → (i : ℕ) (es : List Entry) → Short es → entry_from f i c es ≡ none
+entry-far : (f : ℕ → ℕ) (c : List ℕ) → 255 < length c → (i : ℕ) (es : List Entry) → Short es → entry_from f i c es ≡ None
 unfolding entry_from Short
 entry-far f c l i [] s = refl
 entry-far f c l i (e ∷ es) s = rw (same-lengths f e.name c (omega (arith, s.0)), entry-far f c l (suc i) es s.1)
@@ -128,12 +128,12 @@ module _ (book : Book) (c : List ℕ) (short : Short book.directives) (s : Space
   compact-far : 512 < length c → (a : List ℕ) → length a ≤ 255 → same_compact a c ≡ false
   compact-far l a h = same-lengths fold (compact a) (compact c) (omega (arith, compact-le a))
 
-  entry-long : 512 < length c → entry_of book c ≡ none
+  entry-long : 512 < length c → entry_of book c ≡ None
   unfolding entry_of
   entry-long l =
       rw (entry-far (comparison book) c (omega arith) 0 book.directives short, with-far same_compact c (compact-far l) 0 book.directives short) (go book.optional_blanks)
     where
-      go : (b : Bool) → or_compact b none none ≡ none
+      go : (b : Bool) → or_compact b None None ≡ None
       go true = refl
       go false = refl
 

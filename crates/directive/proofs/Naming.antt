@@ -2,7 +2,7 @@
 -- Assumes nothing.
 use mathlib.Core.Path.{◌≡◌, refl, sym, ◌∙◌}
 use mathlib.Core.Bool.{Bool, true, false, cond, ◌&&◌, true≢false}
-use mathlib.Core.Option.{Option, some, none}
+use Rattle.std.specs.Prelude.{Option, Some, None}
 use mathlib.Core.List.{List, [], ◌∷◌}
 use Prim.Native.Nat.{ℕ, zero, suc, ◌+◌, ◌-◌, ◌<◌, ◌≤◌}
 use native.Mathlib.Nat.{add-zero}
@@ -51,7 +51,7 @@ module _ (header : Header) (bs text : List ℕ) (at p : ℕ) (e : header ≡ hea
   name-open h = rw (name_at, rw e at h)
 
   pub name-past : skip header.ignores_case text at ≡ Past p
-      → name_at (book_of bs) text at ≡ named p (name_from (book_of bs) text at [] none 0 p (drop p text))
+      → name_at (book_of bs) text at ≡ named p (name_from (book_of bs) text at [] None 0 p (drop p text))
   unfolding name_at book_of
   name-past h = rw (name_at, rw e at h)
 
@@ -141,7 +141,7 @@ turn book text search c found kept i end grown h q g m a =
     (skip book.ignores_case text end) refl a)
 
 -- another word follows only a candidate that is kept
-no_word : (book : Book) (text : List ℕ) (end p : ℕ) → next_if book text end none ≡ Word p → ⊥
+no_word : (book : Book) (text : List ℕ) (end p : ℕ) → next_if book text end None ≡ Word p → ⊥
 unfolding next_if
 no_word book text end p e = go (skip book.ignores_case text end) e
   where
@@ -165,8 +165,8 @@ word_kept book text end p n buffer grown k e =
     (λ m. absurd (some-none (rw (l, m) at k))))
     (λ l. absurd (no_word book text end p (rw l at e)))
   where
-    some_inj : {a b : List ℕ} → ◌≡◌ {A = Option (List ℕ)} (some a) (some b) → a ≡ b
+    some_inj : {a b : List ℕ} → ◌≡◌ {A = Option (List ℕ)} (Some a) (Some b) → a ≡ b
     some_inj e = cc
 
-    some-none : {a : List ℕ} → ◌≡◌ {A = Option (List ℕ)} (some a) none → ⊥
+    some-none : {a : List ℕ} → ◌≡◌ {A = Option (List ℕ)} (Some a) None → ⊥
     some-none e = let z : ◌≡◌ {A = ℕ} 0 1 = cc in omega arith

@@ -2,7 +2,7 @@
 -- where its last name does. Assumes nothing.
 use mathlib.Core.Path.{◌≡◌, refl}
 use mathlib.Core.Bool.{Bool, true, false, cond}
-use mathlib.Core.Option.{Option, some, none}
+use Rattle.std.specs.Prelude.{Option, Some, None}
 use mathlib.Core.List.{List, [], ◌∷◌}
 use Prim.Native.Nat.{ℕ, zero, suc, ◌+◌, ◌<◌, ◌≤◌}
 use native.Mathlib.Omega.{arith}
@@ -21,21 +21,21 @@ entries-length lead zero at bs = refl
 entries-length lead (suc n) at bs = rw (entries-length lead n (name_at lead at bs).end bs)
 
 -- the only one of the entries, counted from i
-only_below : (p : List ℕ → Bool) (i k : ℕ) (es : List Entry) → only (entries_with p i es) ≡ some k → k < i + length es
+only_below : (p : List ℕ → Bool) (i k : ℕ) (es : List Entry) → only (entries_with p i es) ≡ Some k → k < i + length es
 unfolding entries_with
 only_below p i k [] h = let z : ◌≡◌ {A = ℕ} 0 1 = cc in absurd (omega arith)
 only_below p i k (e ∷ es) h = go (p e.name) (only_below p (suc i) k es) (entries_with p (suc i) es) refl h
   where
-    first : (r : List ℕ) → only (i ∷ r) ≡ some k → k < i + suc (length es)
+    first : (r : List ℕ) → only (i ∷ r) ≡ Some k → k < i + suc (length es)
     first [] h = let q : i ≡ k = cc in omega arith
     first (j ∷ r) h = let z : ◌≡◌ {A = ℕ} 0 1 = cc in absurd (omega arith)
 
-    go : (b : Bool) → (only (entries_with p (suc i) es) ≡ some k → k < suc i + length es) → (r : List ℕ) → entries_with p (suc i) es ≡ r
-        → only (cond b (i ∷ r) r) ≡ some k → k < i + suc (length es)
+    go : (b : Bool) → (only (entries_with p (suc i) es) ≡ Some k → k < suc i + length es) → (r : List ℕ) → entries_with p (suc i) es ≡ r
+        → only (cond b (i ∷ r) r) ≡ Some k → k < i + suc (length es)
     go true ih r q h = first r h
     go false ih r q h = omega (arith, ih (rw q h))
 
-entry-below : (book : Book) (c : List ℕ) (k : ℕ) → entry_of book c ≡ some k → k < length book.directives
+entry-below : (book : Book) (c : List ℕ) (k : ℕ) → entry_of book c ≡ Some k → k < length book.directives
 unfolding entry_of
 entry-below book c k h =
     go book.optional_blanks (entry_from (comparison book) 0 c book.directives) (only (entries_with (λ n. same_compact n c) 0 book.directives))
@@ -43,11 +43,11 @@ entry-below book c k h =
     (λ e. omega (arith, only_below (λ n. same_compact n c) 0 k book.directives e))
     h
   where
-    go : (b : Bool) (x y : Option ℕ) → (x ≡ some k → k < length book.directives) → (y ≡ some k → k < length book.directives)
-        → or_compact b x y ≡ some k → k < length book.directives
-    go b (some i) y p q e = p e
-    go true none y p q e = q e
-    go false none y p q e = p e
+    go : (b : Bool) (x y : Option ℕ) → (x ≡ Some k → k < length book.directives) → (y ≡ Some k → k < length book.directives)
+        → or_compact b x y ≡ Some k → k < length book.directives
+    go b (Some i) y p q e = p e
+    go true None y p q e = q e
+    go false None y p q e = p e
 
 -- "byte 7 directives (1 to 255)"
 few-directives : (bs : List ℕ) → get_or bs 7 0 < 256 → length (book_of bs).directives ≤ 255
@@ -59,16 +59,16 @@ pub good-latest : (bs c : List ℕ) → get_or bs 7 0 < 256 → (start n end : �
     → Good start n (latest (entry_of (book_of bs) c) end before)
 good-latest bs c b start n end before l m g = go (entry_of (book_of bs) c) (entry-below (book_of bs) c)
   where
-    go : (o : Option ℕ) → ((k : ℕ) → o ≡ some k → k < length (book_of bs).directives) → Good start n (latest o end before)
-    go none h = g
-    go (some i) h = (l, m, omega (arith, h i refl, few-directives bs b))
+    go : (o : Option ℕ) → ((k : ℕ) → o ≡ Some k → k < length (book_of bs).directives) → Good start n (latest o end before)
+    go None h = g
+    go (Some i) h = (l, m, omega (arith, h i refl, few-directives bs b))
 
 -- an answer that says what is remembered
 pub finished-placed : (from start n : ℕ) (f : Option Candidate) (r : NameAnswer) → name_gives r ≡ named start (or_missing from f) → from ≤ start → start ≤ n → Good start n f
     → Placed from n r
-finished-placed from start n none (Found d) e l m g = let z : ◌≡◌ {A = ℕ} 0 1 = cc in absurd (omega arith)
-finished-placed from start n none (Refused x) e l m g = let q : x.place ≡ from = cc in (omega arith, omega arith)
-finished-placed from start n (some f) (Found d) e l m g =
+finished-placed from start n None (Found d) e l m g = let z : ◌≡◌ {A = ℕ} 0 1 = cc in absurd (omega arith)
+finished-placed from start n None (Refused x) e l m g = let q : x.place ≡ from = cc in (omega arith, omega arith)
+finished-placed from start n (Some f) (Found d) e l m g =
     let q : d ≡ record { entry = f.entry; start = start; end = f.end } = cc in
     rw q (l, g.0, g.1, g.2)
-finished-placed from start n (some f) (Refused x) e l m g = let z : ◌≡◌ {A = ℕ} 0 1 = cc in absurd (omega arith)
+finished-placed from start n (Some f) (Refused x) e l m g = let z : ◌≡◌ {A = ℕ} 0 1 = cc in absurd (omega arith)

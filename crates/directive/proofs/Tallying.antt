@@ -2,7 +2,7 @@
 -- Assumes nothing.
 use mathlib.Core.Path.{◌≡◌, refl}
 use mathlib.Core.Bool.{Bool, true, false, cond, ◌&&◌, ◌||◌}
-use mathlib.Core.Option.{Option, some, none}
+use Rattle.std.specs.Prelude.{Option, Some, None}
 use mathlib.Core.List.{List, [], ◌∷◌}
 use Prim.Native.Nat.{ℕ, suc, ◌+◌}
 use native.Mathlib.Numerals.{add-one}
@@ -19,9 +19,9 @@ use Rattle.directive.specs.Steps.{counted, tally_from, any_from}
 
 -- the only one
 abbrev pub only_of : Tally → Option ℕ
-only_of Never = none
-only_of (Once i) = some i
-only_of Often = none
+only_of Never = None
+only_of (Once i) = Some i
+only_of Often = None
 
 module _ (p : List ℕ → Bool) where
   -- n entries, m + 1 of them, of which the first one's name has the range r

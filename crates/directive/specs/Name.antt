@@ -2,7 +2,7 @@
 use Prim.Native.Nat.{ℕ, zero, suc, ◌+◌, ◌-◌}
 use Rattle.std.specs.Prelude.{Bool, true, false, ◌&&◌, ◌||◌, take, drop, eqb}
 use Rattle.std.proofs.Math.Bool.{cond}
-use Rattle.std.proofs.Math.Option.{Option, some, none}
+use Rattle.std.specs.Prelude.{Option, Some, None}
 use mathlib.Core.List.{List, [], ◌∷◌, ◌++◌}
 use Rattle.std.proofs.Math.ListN.{length}
 use Rattle.ascii.specs.Ascii.{is_word, is_space, fold}
@@ -31,15 +31,15 @@ entries_with p i (e ∷ es) = cond (p e.name) (i ∷ entries_with p (suc i) es) 
 
 -- exactly one
 abbrev pub only : List ℕ → Option ℕ
-only [] = none
-only (i ∷ []) = some i
-only (i ∷ j ∷ r) = none
+only [] = None
+only (i ∷ []) = Some i
+only (i ∷ j ∷ r) = None
 
 -- the entry of a candidate: the name itself, or else, with "optional blanks in directive names", the one name that is equal without them
 abbrev pub or_compact : Bool → Option ℕ → Option ℕ → Option ℕ
-or_compact optional (some i) other = some i
-or_compact true none other = other
-or_compact false none other = none
+or_compact optional (Some i) other = Some i
+or_compact true None other = other
+or_compact false None other = None
 
 unfoldable pub entry_of : Book → List ℕ → Option ℕ
 unfolding entry_from compact entries_with same_by
@@ -69,8 +69,8 @@ pub record Candidate : Type 0 where
   pub end : ℕ
 
 abbrev pub latest : Option ℕ → ℕ → Option Candidate → Option Candidate
-latest none end before = before
-latest (some i) end before = some (record { entry = i; end = end })
+latest None end before = before
+latest (Some i) end before = Some (record { entry = i; end = end })
 
 -- the candidate with one word more, "one blank between them"
 abbrev pub extended : List ℕ → List ℕ → List ℕ
@@ -79,8 +79,8 @@ extended (x ∷ xs) word = x ∷ xs ++ (32 ∷ word)
 
 -- row 9, "no directive name, at its search's start"
 abbrev pub or_missing : ℕ → Option Candidate → Answer Candidate
-or_missing search none = refused 9 search
-or_missing search (some f) = given f
+or_missing search None = refused 9 search
+or_missing search (Some f) = given f
 
 abbrev pub starts_word : List ℕ → Bool
 starts_word [] = false
@@ -120,7 +120,7 @@ unfolding name_from skip
 name_at book text at =
     elim (skip book.ignores_case text at) [
       | OpenAt p ↦ refused 8 p
-      | Past p ↦ named p (name_from book text at [] none zero p (drop p text))
+      | Past p ↦ named p (name_from book text at [] None zero p (drop p text))
     ]
 
 abbrev pub name_gives : NameAnswer → Answer DirectiveName

@@ -1,6 +1,6 @@
 -- The steps of the search for a name: a candidate in a buffer, its comparison with a name, the entries that it agrees with, and what follows a word.
 use Rattle.std.specs.Prelude.{ℕ, suc, ◌+◌, ◌≤◌, ◌<◌, Bool, true, false, cond, ◌&&◌, ◌||◌, List, [], ◌∷◌, length, take, drop, leb}
-use Rattle.std.proofs.Math.Option.{Option, some, none}
+use Rattle.std.specs.Prelude.{Option, Some, None}
 use Rattle.ascii.specs.Ascii.{is_space}
 use Rattle.ascii.specs.Text.{leading, same_by, comparing}
 use Rattle.lexer.specs.declared.Skipped.{Skipped}
@@ -55,20 +55,20 @@ any_from p (e ∷ es) = p e.name || any_from p es
 
 -- a candidate of at most 512 bytes
 abbrev pub fitting : List ℕ → Option (List ℕ)
-fitting c = cond (leb (length c) 512) (some c) none
+fitting c = cond (leb (length c) 512) (Some c) None
 
 -- the candidate that is kept in a buffer with its length; a length above 512 says that it is longer
 abbrev pub kept_in : ℕ → List ℕ → Option (List ℕ)
-kept_in n buffer = cond (leb n 512) (some (take n buffer)) none
+kept_in n buffer = cond (leb n 512) (Some (take n buffer)) None
 
 -- a longer one is no name of a book, and no name begins with it
 abbrev pub entry_if : Book → Option (List ℕ) → Option ℕ
-entry_if book none = none
-entry_if book (some c) = entry_of book c
+entry_if book None = None
+entry_if book (Some c) = entry_of book c
 
 abbrev pub grows_if : Book → Option (List ℕ) → Bool
-grows_if book none = false
-grows_if book (some c) = may_grow book c
+grows_if book None = false
+grows_if book (Some c) = may_grow book c
 
 -- what follows a word that ends at a place: trivia first
 abbrev pub behind : (ℕ → Next) → Skipped → Next
@@ -81,8 +81,8 @@ next_if book text end kept =
 
 -- the last candidate that was a name
 abbrev pub latest_of : Latest → Option Candidate
-latest_of Unnamed = none
-latest_of (Named entry end) = some (record { entry = entry; end = end })
+latest_of Unnamed = None
+latest_of (Named entry end) = Some (record { entry = entry; end = end })
 
 -- the place of what follows is not before a place, and not past n bytes
 abbrev pub Ahead : ℕ → ℕ → Next → Type 0
@@ -92,8 +92,8 @@ Ahead at n (Open p) = (at ≤ p) × (p ≤ n)
 
 -- the last name ends behind place start and not past n bytes, and its entry is one of at most 255
 abbrev pub Good : ℕ → ℕ → Option Candidate → Type 0
-Good start n none = Unit {0}
-Good start n (some f) = (start < f.end) × (f.end ≤ n) × (f.entry < 255)
+Good start n None = Unit {0}
+Good start n (Some f) = (start < f.end) × (f.end ≤ n) × (f.entry < 255)
 
 -- the same of an answer of a search that began at a place; a refusal's place is not before that, and not past n bytes
 abbrev pub Placed : ℕ → ℕ → NameAnswer → Type 0

@@ -5,7 +5,6 @@ pub mod candidate;
 pub mod names;
 
 ghost use Rattle.std.specs.Prelude.{◌≡◌, [], ◌≤◌, length, drop, get_or};
-ghost use Rattle.std.proofs.Math.Option.{none};
 ghost use Rattle.ascii.specs.Ascii.{is_word};
 ghost use Rattle.ascii.specs.Text.{found_at};
 ghost use Rattle.rulebook.specs.Book.{LaidIn, header_of, book_of};
@@ -165,7 +164,7 @@ fn search(
     requires laid_in { LaidIn header.directives book.now }
     requires looked { Looked header.directives book.now index.now }
     requires from_le_start { (from ≤ start) × (start ≤ length text.now) × (length buffer.old ≡ 512) }
-    ensures result_value { name_gives result ≡ named start (name_from (book_of book.now) text.now from [] none 0 start (drop start text.now)) }
+    ensures result_value { name_gives result ≡ named start (name_from (book_of book.now) text.now from [] None 0 start (drop start text.now)) }
     ensures placed { Placed from (length text.now) result }
 {
     let mut place = start;

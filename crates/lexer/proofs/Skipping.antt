@@ -2,7 +2,7 @@
 -- Assumes nothing.
 use mathlib.Core.Path.{◌≡◌, refl}
 use mathlib.Core.Bool.{Bool, true, false, cond, ◌&&◌}
-use mathlib.Core.Option.{Option, some, none}
+use Rattle.std.specs.Prelude.{Option, Some, None}
 use mathlib.Core.List.{List, [], ◌∷◌}
 use Prim.Native.Nat.{ℕ, zero, suc, ◌+◌, ◌-◌, ◌<◌, ◌≤◌}
 use native.Mathlib.Nat.{add-zero}
@@ -20,16 +20,16 @@ use Rattle.lexer.specs.Continuation.{break_c, break_f}
 use Rattle.lexer.specs.Trivia.{closed, is_line_feed, trivia_c, trivia_f, trivia_of, skip_from}
 
 -- a block comment with its opening bytes, from where it ends
-pub closed_some : (at end : ℕ) (o : Option ℕ) → some end ≡ more (at + 2) o → Run (end - at) ≡ closed o
-closed_some at end none e = let z : ◌≡◌ {A = ℕ} 0 1 = cc in absurd (omega arith)
-closed_some at end (some n) e =
+pub closed_some : (at end : ℕ) (o : Option ℕ) → Some end ≡ more (at + 2) o → Run (end - at) ≡ closed o
+closed_some at end None e = let z : ◌≡◌ {A = ℕ} 0 1 = cc in absurd (omega arith)
+closed_some at end (Some n) e =
     let q : end ≡ at + 2 + n = cc in
     let r : end - at ≡ 2 + n = omega arith in
     rw r
 
-pub closed_none : (at : ℕ) (o : Option ℕ) → none ≡ more at o → Open ≡ closed o
-closed_none at none e = refl
-closed_none at (some n) e = let z : ◌≡◌ {A = ℕ} 0 1 = cc in absurd (omega arith)
+pub closed_none : (at : ℕ) (o : Option ℕ) → None ≡ more at o → Open ≡ closed o
+closed_none at None e = refl
+closed_none at (Some n) e = let z : ◌≡◌ {A = ℕ} 0 1 = cc in absurd (omega arith)
 
 -- up to and with the first byte of a kind
 module _ (p : ℕ → Bool) (s : List ℕ) (i : ℕ) where

@@ -1,6 +1,6 @@
 -- Trivia: white space, continuations and comments between words (`skip_language_trivia`).
 use Rattle.std.specs.Prelude.{ℕ, zero, suc, ◌+◌, ◌≤◌, Bool, true, false, cond, ◌&&◌, List, [], ◌∷◌, drop, get_or, eqb, ltb}
-use Rattle.std.proofs.Math.Option.{Option, some, none}
+use Rattle.std.specs.Prelude.{Option, Some, None}
 use Rattle.ascii.specs.Ascii.{is_space}
 use Rattle.ascii.specs.Text.{up_to}
 use Rattle.code.specs.Code.{block_end}
@@ -12,8 +12,8 @@ use Rattle.lexer.specs.Continuation.{break_c, break_f}
 
 -- a block comment with the two bytes that open it
 abbrev pub closed : Option ℕ → Stretch
-closed none = Open
-closed (some n) = Run (2 + n)
+closed None = Open
+closed (Some n) = Run (2 + n)
 
 abbrev pub is_line_feed : ℕ → Bool
 is_line_feed b = eqb b 10

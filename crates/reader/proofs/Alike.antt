@@ -1,7 +1,7 @@
 -- Demand 3 over the code: whatever two calls of `read_line` give by its contract, breaks change nothing but the map, and appended names change no accepted reading.
 -- From the contract's equation and the laws of the definitions. Assumes nothing.
 use Prim.Native.Nat.{ℕ, ◌≤◌, ◌<◌}
-use mathlib.Core.Option.{none}
+use Rattle.std.specs.Prelude.{None}
 use mathlib.Core.Path.{◌≡◌, sym, ap, ◌∙◌}
 use mathlib.Core.List.{List}
 use lib.ListN.{length}
@@ -49,7 +49,7 @@ broken-alike t plain gap p book text_slots map_slots record_slots a b h k m e d 
 
 -- a reading under a book, and under one with clause names appended to it: the same reading, and every slot
 pub appended-alike : (l : Language) (p : Prefix) (short long line : List ℕ) (text_slots map_slots record_slots : ℕ) (reading : Reading) (a b : Left)
-    → book_fault short ≡ none → book_fault long ≡ none → IsAppended (book_of short) (book_of long) → (book_of short).default ≡ Unsupported
+    → book_fault short ≡ None → book_fault long ≡ None → IsAppended (book_of short) (book_of long) → (book_of short).default ≡ Unsupported
     → Meets l p short line text_slots map_slots record_slots a → Meets l p long line text_slots map_slots record_slots b
     → a.answer ≡ LineAnswer.Read reading → left_call b ≡ left_call a
 appended-alike l p short long line text_slots map_slots record_slots reading a b v w more strict e d r =

@@ -1,7 +1,7 @@
 -- The law of the appended names at work: document 01's strict book, and the same with `if` appended. Its premises hold, and a line is read alike.
 -- The premises are evaluated, the longer book's reading comes by the law. Assumes nothing.
 use Prim.Native.Nat.{ℕ}
-use mathlib.Core.Option.{none}
+use Rattle.std.specs.Prelude.{None}
 use mathlib.Core.Path.{◌≡◌, refl}
 use mathlib.Core.List.{List, [], ◌∷◌}
 use Rattle.ascii.specs.Text.{bytes, leading, up_to, same_by, begins, first_high}
@@ -38,7 +38,7 @@ appended = record {
   same_rules = refl;
 }
 
-valid : (book_fault strict ≡ none) × (book_fault with_if ≡ none) × ((book_of strict).default ≡ Unsupported)
+valid : (book_fault strict ≡ None) × (book_fault with_if ≡ None) × ((book_of strict).default ≡ Unsupported)
 unfolding same_by bad_from entries_from place_after clauses_of header_of book_of is_named repeat_from book_fault
 valid = (refl, refl, refl)
 

@@ -1,7 +1,7 @@
 -- Clause names that are appended to a book keep every reading: under default Unsupported a line that is accepted is accepted as before.
 -- The name goes by flags and directives, the sequence is kept, and the other steps do not ask the book. Assumes nothing.
 use Prim.Native.Nat.{ℕ}
-use mathlib.Core.Option.{none}
+use Rattle.std.specs.Prelude.{None}
 use mathlib.Core.Path.{◌≡◌}
 use mathlib.Core.List.{List}
 use Rattle.refusal.specs.Answer.{given}
@@ -39,7 +39,7 @@ parsed-kept short long a strict l p room text r h =
     rw (o, names-go-by-directives long short a.same_case a.same_blanks a.same_directives, n, sequence_at-kept short long a strict text room name.end s q) h3
 
 line_answer-kept : (l : Language) (p : Prefix) (short long line : List ℕ) (text_slots map_slots record_slots : ℕ)
-    → book_fault short ≡ none → book_fault long ≡ none → IsAppended (book_of short) (book_of long) → (book_of short).default ≡ Unsupported
+    → book_fault short ≡ None → book_fault long ≡ None → IsAppended (book_of short) (book_of long) → (book_of short).default ≡ Unsupported
     → Keeps (line_answer l p short line text_slots map_slots record_slots) (line_answer l p long line text_slots map_slots record_slots)
 unfolding line_answer
 line_answer-kept l p short long line text_slots map_slots record_slots fs fl a strict =

@@ -2,7 +2,7 @@
 -- By cases of what each check finds. Assumes nothing.
 use Prim.Native.Nat.{ℕ, suc, ◌≤◌, ◌<◌}
 use mathlib.Core.Bool.{Bool, true, false, cond}
-use mathlib.Core.Option.{Option, some, none}
+use Rattle.std.specs.Prelude.{Option, Some, None}
 use mathlib.Core.Path.{◌≡◌, refl, ◌∙◌}
 use mathlib.Core.List.{List}
 use lib.ListN.{length}
@@ -38,9 +38,9 @@ unlong : {A : Type 0} (b : Bool) (x : Answer A) (a : A) → cond b (refused 1 ma
 unlong true x a e = never _ 1 max_length a e
 unlong false x a e = (refl, e)
 
-unfault : {A : Type 0} (n : ℕ) (o : Option ℕ) (x : Answer A) (a : A) → unless_fault n o x ≡ given a → (o ≡ none) × (x ≡ given a)
-unfault n none x a e = (refl, e)
-unfault n (some p) x a e = never _ n p a e
+unfault : {A : Type 0} (n : ℕ) (o : Option ℕ) (x : Answer A) (a : A) → unless_fault n o x ≡ given a → (o ≡ None) × (x ≡ given a)
+unfault n None x a e = (refl, e)
+unfault n (Some p) x a e = never _ n p a e
 
 roomy : {A : Type 0} (b : Bool) (x : Answer A) (a : A) → cond b (refused 3 0) x ≡ given a → (b ≡ false) × (x ≡ given a)
 roomy true x a e = never _ 3 0 a e
@@ -51,7 +51,7 @@ pub record Fit (book line : List ℕ) (text_slots map_slots : ℕ) : Type 0 wher
   pub short : length line ≤ max_length
   pub text : length line ≤ text_slots
   pub map : length line < map_slots
-  pub valid : book_fault book ≡ none
+  pub valid : book_fault book ≡ None
 
 pub call-fine : (book line : List ℕ) (text_slots map_slots : ℕ) → call_check (book_call book) line text_slots map_slots ≡ given tt → Fit book line text_slots map_slots
 unfolding call_check book_call

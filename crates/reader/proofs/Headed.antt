@@ -2,7 +2,7 @@
 -- By cases of the answers on the way. Assumes nothing.
 use Prim.Native.Nat.{ℕ, zero, suc, ◌+◌, ◌≤◌}
 use mathlib.Core.Bool.{Bool, true, false, cond}
-use mathlib.Core.Option.{Option, some, none}
+use Rattle.std.specs.Prelude.{Option, Some, None}
 use mathlib.Core.Path.{◌≡◌, refl, sym, ap, ◌∙◌}
 use mathlib.Core.List.{List, [], ◌∷◌}
 use native.Mathlib.Omega.{arith}
@@ -63,7 +63,7 @@ module _ (bk text : List ℕ) (l : Language) (p : Prefix) (room : ℕ) where
       let a : parsed (book_of bk) l p room text ≡ refused_by why = parsed-is (book_of bk) l p room text ∙ rw e in
       rw a (record { within = (omega arith, omega arith); started = record { proper = tt; room = omega arith; none_yet = refl }; reads = refl; whole = tt })
 
-  pub heads-found : (name : DirectiveName) → and_then (opening l p text) (name_at (book_of bk) text) ≡ given name → book_fault bk ≡ none → length text ≤ max_length
+  pub heads-found : (name : DirectiveName) → and_then (opening l p text) (name_at (book_of bk) text) ≡ given name → book_fault bk ≡ None → length text ≤ max_length
       → Heads bk text room (parsed (book_of bk) l p room text) (record { name = name; length = length text; mapped = length text + 1; start = start_at bk text room name.end })
   heads-found name e v s =
       let t : take (length text) text ≡ text = take-length text in
@@ -88,8 +88,8 @@ check-then true n x f = refl
 check-then false n x f = refl
 
 fault-then : {A B : Type 0} (n : ℕ) (o : Option ℕ) (x : Answer A) (f : A → Answer B) → unless_fault n o (and_then x f) ≡ and_then (unless_fault n o x) f
-fault-then n none x f = refl
-fault-then n (some p) x f = refl
+fault-then n None x f = refl
+fault-then n (Some p) x f = refl
 
 admit-then : {A B : Type 0} (xs : List ℕ) (x : Answer A) (f : A → Answer B) → admitted xs (and_then x f) ≡ and_then (admitted xs x) f
 admit-then xs x f = go (ltb max_length (length xs))
@@ -100,8 +100,8 @@ admit-then xs x f = go (ltb max_length (length xs))
 
 line-then : (b : Bool) (o : Option ℕ) (x : Answer Parsed) → cond b (unless_fault 6 o x) (refused 5 0) ≡ and_then {A = Unit {0}} (cond b (unless_fault 6 o (given tt)) (refused 5 0)) (λ _. x)
 line-then false o x = refl
-line-then true none x = refl
-line-then true (some q) x = refl
+line-then true None x = refl
+line-then true (Some q) x = refl
 
 module _ (l : Language) (p : Prefix) (bk line : List ℕ) (ts ms room : ℕ) where
   abbrev read : Answer Parsed

@@ -1,7 +1,7 @@
 -- Demand 3, as statements about what the calls give: breaks change nothing but the map, and appended clause names change no accepted reading;
 -- and what is read under default Unsupported. Their proofs are theorems of these types.
 use Rattle.std.specs.Prelude.{ℕ, suc, ◌≤◌, ◌<◌, ◌≡◌, List, length, get_or}
-use Rattle.std.proofs.Math.Option.{none}
+use Rattle.std.specs.Prelude.{None}
 use Rattle.ascii.specs.Text.{padded}
 use Rattle.refusal.specs.Answer.{given, max_length}
 use Rattle.lexer.specs.declared.Language.{Language}
@@ -35,7 +35,7 @@ BreaksChangeNothing = (t : List ℕ) → IsPlain t → (gap : ℕ → List Break
 -- under the longer one: the reading, and every lent slot.
 abbrev pub AppendedNamesKeepReadings : Type 0
 AppendedNamesKeepReadings = (l : Language) (p : Prefix) (short long line : List ℕ) (text_slots map_slots record_slots : ℕ) (reading : Reading)
-    → book_fault short ≡ none → book_fault long ≡ none → IsAppended (book_of short) (book_of long) → (book_of short).default ≡ Unsupported
+    → book_fault short ≡ None → book_fault long ≡ None → IsAppended (book_of short) (book_of long) → (book_of short).default ≡ Unsupported
     → (line_call l p short line text_slots map_slots record_slots).answer ≡ given reading
     → line_call l p long line text_slots map_slots record_slots ≡ line_call l p short line text_slots map_slots record_slots
 

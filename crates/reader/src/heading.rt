@@ -1,6 +1,5 @@
 // The head of a line: checks, joining, opening words, name. The clauses start behind it.
 ghost use Rattle.std.specs.Prelude.{◌≡◌, ◌++◌, ◌-◌, ◌≤◌, length, take, replicate};
-ghost use Rattle.std.proofs.Math.Option.{none};
 ghost use Rattle.refusal.specs.Answer.{and_then, max_length};
 ghost use Rattle.rulebook.specs.Book.{book_of, header_of};
 ghost use Rattle.bookform.specs.Format.{HasForm};
@@ -65,7 +64,7 @@ fn head_of(
     text: &[u8],
     slots: usize,
 ) -> Head
-    requires book_value { book_fault book.now ≡ none }
+    requires book_value { book_fault book.now ≡ None }
     requires header_value { header ≡ header_of book.now }
     requires indexes { Indexes book.now index.now }
     requires text_len_bound { length text.now ≤ max_length }

@@ -2,7 +2,7 @@
 -- Assumes nothing.
 use mathlib.Core.Path.{◌≡◌, refl, sym}
 use mathlib.Core.Bool.{Bool, true, false, cond}
-use mathlib.Core.Option.{Option, some, none}
+use Rattle.std.specs.Prelude.{Option, Some, None}
 use mathlib.Core.List.{List}
 use Prim.Native.Nat.{ℕ, ◌≤◌}
 use native.Mathlib.Omega.{arith}
@@ -17,8 +17,8 @@ use Rattle.refusal.specs.Answer.{Answer, refused, refused_by, unless_fault, admi
 use Rattle.refusal.specs.Verdict.{fault_by, text_verdict, or_refused}
 
 fault-refused : {A : Type 0} (o : Option ℕ) (a : Answer A) → or_refused (fault_by HighByte o) a ≡ unless_fault 2 o a
-fault-refused none a = refl
-fault-refused (some p) a = refl
+fault-refused None a = refl
+fault-refused (Some p) a = refl
 
 -- the verdict, and then what follows, is what the definition of a call says
 pub admits : {A : Type 0} (xs : List ℕ) (a : Answer A) → or_refused (text_verdict xs) a ≡ admitted xs a

@@ -2,7 +2,7 @@
 -- By cases of the answer. Assumes nothing.
 use Prim.Native.Nat.{ℕ}
 use mathlib.Core.Bool.{Bool, true, false, cond}
-use mathlib.Core.Option.{Option, some, none}
+use Rattle.std.specs.Prelude.{Option, Some, None}
 use mathlib.Core.Path.{◌≡◌, refl}
 use mathlib.Core.List.{List}
 use native.Mathlib.Omega.{arith}
@@ -28,8 +28,8 @@ keeps-cond true x y v w h k = h
 keeps-cond false x y v w h k = k
 
 pub keeps-fault : {A : Type 0} (n : ℕ) (o : Option ℕ) (x y : Answer A) → Keeps x y → Keeps (unless_fault n o x) (unless_fault n o y)
-keeps-fault n none x y h = h
-keeps-fault n (some p) x y h = λ a e. e
+keeps-fault n None x y h = h
+keeps-fault n (Some p) x y h = λ a e. e
 
 pub keeps-admitted : {A : Type 0} (xs : List ℕ) (x y : Answer A) → Keeps x y → Keeps (admitted xs x) (admitted xs y)
 keeps-admitted xs x y h = keeps-cond (ltb max_length (length xs)) _ _ _ _ (λ a e. e) (keeps-fault 2 (first_high 0 xs) x y h)
@@ -57,8 +57,8 @@ sure-cond P true x y h k = h
 sure-cond P false x y h k = k
 
 pub sure-fault : {A : Type 0} (P : A → Type 0) (n : ℕ) (o : Option ℕ) (x : Answer A) → Sure P x → Sure P (unless_fault n o x)
-sure-fault P n none x h = h
-sure-fault P n (some p) x h = tt
+sure-fault P n None x h = h
+sure-fault P n (Some p) x h = tt
 
 pub sure-admitted : {A : Type 0} (P : A → Type 0) (xs : List ℕ) (x : Answer A) → Sure P x → Sure P (admitted xs x)
 sure-admitted P xs x h = sure-cond P (ltb max_length (length xs)) _ _ tt (sure-fault P 2 (first_high 0 xs) x h)

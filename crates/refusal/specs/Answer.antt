@@ -1,6 +1,6 @@
 -- What a call answers: what it gives, or one refusal of the table with its place.
 use Rattle.std.specs.Prelude.{ℕ, cond, List, [], length, ltb}
-use Rattle.std.proofs.Math.Option.{Option, some, none}
+use Rattle.std.specs.Prelude.{Option, Some, None}
 use Rattle.ascii.specs.Text.{first_high, padded}
 use Rattle.refusal.specs.declared.Refusal.{Refusal}
 use Rattle.refusal.specs.Table.{number_of}
@@ -21,8 +21,8 @@ and_then (refused n p) f = refused n p
 
 -- refusal n at the place of a fault, if there is one
 abbrev pub unless_fault : {A : Type 0} → ℕ → Option ℕ → Answer A → Answer A
-unless_fault n none a = a
-unless_fault n (some p) a = refused n p
+unless_fault n None a = a
+unless_fault n (Some p) a = refused n p
 
 -- "at most 16,384"
 abbrev pub max_length : ℕ

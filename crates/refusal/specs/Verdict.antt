@@ -1,6 +1,6 @@
 -- What a check finds before a call goes on: nothing, or a refusal.
 use Rattle.std.specs.Prelude.{ℕ, cond, List, length, ltb}
-use Rattle.std.proofs.Math.Option.{Option, some, none}
+use Rattle.std.specs.Prelude.{Option, Some, None}
 use Rattle.ascii.specs.Text.{first_high}
 use Rattle.refusal.specs.declared.Reason.{Reason}
 use Rattle.refusal.specs.declared.Reason.TheVariants.{TooLong, HighByte}
@@ -10,8 +10,8 @@ use Rattle.refusal.specs.Answer.{Answer, refused_by, max_length}
 
 -- a reason at the place of a fault, if there is one
 abbrev pub fault_by : Reason → Option ℕ → Verdict
-fault_by why none = Fine
-fault_by why (some p) = Bad (record { reason = why; place = p })
+fault_by why None = Fine
+fault_by why (Some p) = Bad (record { reason = why; place = p })
 
 -- rows 1 and 2 of the table
 unfoldable pub text_verdict : List ℕ → Verdict

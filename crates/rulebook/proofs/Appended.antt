@@ -2,7 +2,7 @@
 -- Assumes nothing.
 use Prim.Native.Nat.{ℕ, zero, suc, ◌+◌, ◌<◌}
 use mathlib.Core.Bool.{Bool, true, false, cond}
-use mathlib.Core.Option.{some}
+use Rattle.std.specs.Prelude.{Some}
 use mathlib.Core.Path.{◌≡◌, refl, sym, ◌∙◌}
 use mathlib.Core.List.{List, [], ◌∷◌, ◌++◌, map, map-append}
 use native.Mathlib.Omega.{arith}
@@ -43,24 +43,24 @@ rule_at-ruled d zero (e ∷ es) = refl
 rule_at-ruled d (suc i) (e ∷ es) = rule_at-ruled d i es
 
 -- an entry that is found among the first is found among all
-entry_from-append : (f : ℕ → ℕ) (i j : ℕ) (name : List ℕ) (es more : List Entry) → entry_from f i name es ≡ some j → entry_from f i name (es ++ more) ≡ some j
+entry_from-append : (f : ℕ → ℕ) (i j : ℕ) (name : List ℕ) (es more : List Entry) → entry_from f i name es ≡ Some j → entry_from f i name (es ++ more) ≡ Some j
 unfolding entry_from
 entry_from-append f i j name [] more h = cc
 entry_from-append f i j name (e ∷ es) more h = go (same_by f e.name name) (entry_from-append f (suc i) j name es more) h
   where
-    go : (b : Bool) → (entry_from f (suc i) name es ≡ some j → entry_from f (suc i) name (es ++ more) ≡ some j)
-        → cond b (some i) (entry_from f (suc i) name es) ≡ some j → cond b (some i) (entry_from f (suc i) name (es ++ more)) ≡ some j
+    go : (b : Bool) → (entry_from f (suc i) name es ≡ Some j → entry_from f (suc i) name (es ++ more) ≡ Some j)
+        → cond b (Some i) (entry_from f (suc i) name es) ≡ Some j → cond b (Some i) (entry_from f (suc i) name (es ++ more)) ≡ Some j
     go true ih h = h
     go false ih h = ih h
 
 -- an entry's index is below the number of entries
-pub entry_from-below : (f : ℕ → ℕ) (i j : ℕ) (name : List ℕ) (es : List Entry) → entry_from f i name es ≡ some j → j < i + length es
+pub entry_from-below : (f : ℕ → ℕ) (i j : ℕ) (name : List ℕ) (es : List Entry) → entry_from f i name es ≡ Some j → j < i + length es
 unfolding entry_from
 entry_from-below f i j name [] h = let z : ◌≡◌ {A = ℕ} 0 1 = cc in absurd (omega arith)
 entry_from-below f i j name (e ∷ es) h = go (same_by f e.name name) (entry_from-below f (suc i) j name es) h
   where
-    go : (b : Bool) → (entry_from f (suc i) name es ≡ some j → j < suc i + length es)
-        → cond b (some i) (entry_from f (suc i) name es) ≡ some j → j < i + suc (length es)
+    go : (b : Bool) → (entry_from f (suc i) name es ≡ Some j → j < suc i + length es)
+        → cond b (Some i) (entry_from f (suc i) name es) ≡ Some j → j < i + suc (length es)
     go true ih h = let z : i ≡ j = cc in omega arith
     go false ih h = omega (arith, ih h)
 
@@ -72,7 +72,7 @@ rule_at-append d (suc i) (e ∷ es) more h = rule_at-append d i es more (omega a
 
 -- the same of entries that begin with all of the others' names and rules
 pub entry_from-appended : (short long more : List Entry) → names_of long ≡ names_of short ++ names_of more
-    → (f : ℕ → ℕ) (i j : ℕ) (name : List ℕ) → entry_from f i name short ≡ some j → entry_from f i name long ≡ some j
+    → (f : ℕ → ℕ) (i j : ℕ) (name : List ℕ) → entry_from f i name short ≡ Some j → entry_from f i name long ≡ Some j
 entry_from-appended short long more same f i j name h =
     let k = entry_from-append f i j name (named (names_of short)) (named (names_of more)) (sym (entry_from-named f i name short) ∙ h) in
     rw (entry_from-named f i name long, same, map-append) k
@@ -85,7 +85,7 @@ rule_at-appended short long more same d i h =
 
 -- a name that is found in a book is found, at the same index with the same rule, in every book with clause names appended
 pub clause_entry-appended : (short long : Book) → IsAppended short long → (i : ℕ) (name : List ℕ)
-    → entry_from (comparison short) 0 name short.clauses ≡ some i → clause_entry long name ≡ clause_entry short name
+    → entry_from (comparison short) 0 name short.clauses ≡ Some i → clause_entry long name ≡ clause_entry short name
 unfolding clause_entry
 clause_entry-appended short long a i name h =
     let k = entry_from-appended short.clauses long.clauses a.more a.same_names (comparison short) 0 i name h in

@@ -2,7 +2,7 @@
 -- Assumes nothing.
 use mathlib.Core.Path.{◌≡◌, refl}
 use mathlib.Core.Bool.{Bool, true, false, cond}
-use mathlib.Core.Option.{Option, some, none}
+use Rattle.std.specs.Prelude.{Option, Some, None}
 use mathlib.Core.List.{List, [], ◌∷◌}
 use Prim.Native.Nat.{ℕ, zero, suc, ◌+◌, ◌<◌}
 use native.Mathlib.Omega.{arith}
@@ -19,8 +19,8 @@ use Rattle.rulebook.proofs.Forms.{form-directives, form-clauses}
 
 -- the index alone
 abbrev pub index_of : EntryFound → Option ℕ
-index_of (At i p) = some i
-index_of Nothing = none
+index_of (At i p) = Some i
+index_of Nothing = None
 
 pub index-found : (f : ℕ → ℕ) (i : ℕ) (name : List ℕ) (es : List Entry) → entry_from f i name es ≡ index_of (find_from f i name es)
 unfolding entry_from find_from
@@ -28,7 +28,7 @@ index-found f i name [] = refl
 index-found f i name (e ∷ es) = go (same_by f e.name name) (index-found f (suc i) name es)
   where
     go : (b : Bool) → entry_from f (suc i) name es ≡ index_of (find_from f (suc i) name es)
-        → cond b (some i) (entry_from f (suc i) name es) ≡ index_of (cond b (At i e.at) (find_from f (suc i) name es))
+        → cond b (Some i) (entry_from f (suc i) name es) ≡ index_of (cond b (At i e.at) (find_from f (suc i) name es))
     go true h = refl
     go false h = h
 

@@ -2,7 +2,7 @@
 -- Assumes nothing.
 use mathlib.Core.Path.{◌≡◌, refl, sym, ◌∙◌}
 use mathlib.Core.Bool.{Bool, true, false, ◌&&◌, ◌||◌}
-use mathlib.Core.Option.{Option, some, none}
+use Rattle.std.specs.Prelude.{Option, Some, None}
 use mathlib.Core.List.{List}
 use Prim.Native.Nat.{ℕ, zero, suc, ◌+◌, ◌-◌, ◌<◌, ◌≤◌}
 use native.Mathlib.Nat.{add-zero}
@@ -29,9 +29,9 @@ module _ (bs : List ℕ) where
     inside : at < length bs
     next : Expect
     leads : stepped e (get_or bs at 0) ≡ Next next
-    fine : bad_from next (at + 1) (drop (at + 1) bs) ≡ none
+    fine : bad_from next (at + 1) (drop (at + 1) bs) ≡ None
 
-  goes : (e : Expect) (at : ℕ) → ended_at e at ≡ some at → bad_from e at (drop at bs) ≡ none → Goes e at
+  goes : (e : Expect) (at : ℕ) → ended_at e at ≡ Some at → bad_from e at (drop at bs) ≡ None → Goes e at
   goes e at w h =
       by_cases (ltb at (length bs))
       (λ t. on (ltb-true _ _ t) (stepped e (get_or bs at 0)) refl)
@@ -42,8 +42,8 @@ module _ (bs : List ℕ) where
       on l Bad q = never at (sym (bad-here bs e at l q) ∙ h)
 
   -- names
-  name-fits : (n : ℕ) (w : Bool) (d c at to : ℕ) → to ≡ at + n + 1 → bad_from (DirectiveName n w d c) at (drop at bs) ≡ none
-      → (to ≤ length bs) × (bad_from (directives_left d c) to (drop to bs) ≡ none)
+  name-fits : (n : ℕ) (w : Bool) (d c at to : ℕ) → to ≡ at + n + 1 → bad_from (DirectiveName n w d c) at (drop at bs) ≡ None
+      → (to ≤ length bs) × (bad_from (directives_left d c) to (drop to bs) ≡ None)
   name-fits zero w d c at to e h =
       let g = goes (DirectiveName zero w d c) at refl h in
       let q : to ≡ at + 1 = omega arith in
@@ -54,8 +54,8 @@ module _ (bs : List ℕ) where
       let k = when-next (is_word (get_or bs at 0) || eqb (get_or bs at 0) 32 && w) _ _ g.leads in
       name-fits n (is_word (get_or bs at 0)) d c (at + 1) to (omega arith) (rw k.1 at g.fine)
 
-  word_fits : (n c at to : ℕ) → to ≡ at + n + 1 → bad_from (ClauseName n c) at (drop at bs) ≡ none
-      → (to ≤ length bs) × (bad_from (clauses_left c) to (drop to bs) ≡ none)
+  word_fits : (n c at to : ℕ) → to ≡ at + n + 1 → bad_from (ClauseName n c) at (drop at bs) ≡ None
+      → (to ≤ length bs) × (bad_from (clauses_left c) to (drop to bs) ≡ None)
   word_fits zero c at to e h =
       let g = goes (ClauseName zero c) at refl h in
       let q : to ≡ at + 1 = omega arith in
@@ -67,8 +67,8 @@ module _ (bs : List ℕ) where
       word_fits n c (at + 1) to (omega arith) (rw k.1 at g.fine)
 
   -- entries
-  directive-fits : (d c at : ℕ) → bad_from (DirectiveLength d c) at (drop at bs) ≡ none
-      → (1 ≤ get_or bs (at + 0) 0) × ((name_at 0 at bs).end ≤ length bs) × (bad_from (directives_left d c) (name_at 0 at bs).end (drop (name_at 0 at bs).end bs) ≡ none)
+  directive-fits : (d c at : ℕ) → bad_from (DirectiveLength d c) at (drop at bs) ≡ None
+      → (1 ≤ get_or bs (at + 0) 0) × ((name_at 0 at bs).end ≤ length bs) × (bad_from (directives_left d c) (name_at 0 at bs).end (drop (name_at 0 at bs).end bs) ≡ None)
   directive-fits d c at h =
       let g = goes (DirectiveLength d c) at refl h in
       let k = when-next (is_length (get_or bs at 0)) _ _ g.leads in
@@ -76,8 +76,8 @@ module _ (bs : List ℕ) where
       let f = name-fits (get_or bs at 0 - 1) false d c (at + 1) (at + 1 + get_or bs at 0) (omega arith) (rw k.1 at g.fine) in
       rw (add-zero at) (l, f.0, f.1)
 
-  clause-fits : (c at : ℕ) → bad_from (Rule c) at (drop at bs) ≡ none
-      → (1 ≤ get_or bs (at + 1) 0) × ((name_at 1 at bs).end ≤ length bs) × (bad_from (clauses_left c) (name_at 1 at bs).end (drop (name_at 1 at bs).end bs) ≡ none)
+  clause-fits : (c at : ℕ) → bad_from (Rule c) at (drop at bs) ≡ None
+      → (1 ≤ get_or bs (at + 1) 0) × ((name_at 1 at bs).end ≤ length bs) × (bad_from (clauses_left c) (name_at 1 at bs).end (drop (name_at 1 at bs).end bs) ≡ None)
   clause-fits c at h =
       let g = goes (Rule c) at refl h in
       let k = when-next (is_known (rule_for (get_or bs at 0))) _ _ g.leads in
@@ -87,14 +87,14 @@ module _ (bs : List ℕ) where
       let f = word_fits (get_or bs (at + 1) 0 - 1) c (at + 1 + 1) (name_at 1 at bs).end (omega arith) (rw k'.1 at g'.fine) in
       (l, f.0, f.1)
 
-  laid-clauses : (c at : ℕ) → at ≤ length bs → bad_from (clauses_left c) at (drop at bs) ≡ none → Laid 1 c at bs
+  laid-clauses : (c at : ℕ) → at ≤ length bs → bad_from (clauses_left c) at (drop at bs) ≡ None → Laid 1 c at bs
   unfolding Laid
   laid-clauses zero at l h = l
   laid-clauses (suc c) at l h =
       let f = clause-fits c at h in
       (f.0, f.1, laid-clauses c (name_at 1 at bs).end f.1 f.2)
 
-  laid-directives : (d c at : ℕ) → at ≤ length bs → bad_from (directives_left d c) at (drop at bs) ≡ none
+  laid-directives : (d c at : ℕ) → at ≤ length bs → bad_from (directives_left d c) at (drop at bs) ≡ None
       → Laid 0 d at bs × Laid 1 c (place_after 0 d at bs) bs
   unfolding Laid place_after
   laid-directives zero c at l h = (l, laid-clauses c at l h)
@@ -104,7 +104,7 @@ module _ (bs : List ℕ) where
       ((f.0, f.1, g.0), g.1)
 
   -- the header
-  header-on : (i : ℕ) → ltb i 7 ≡ true → bad_from (HeaderByte i) i (drop i bs) ≡ none → bad_from (HeaderByte (i + 1)) (i + 1) (drop (i + 1) bs) ≡ none
+  header-on : (i : ℕ) → ltb i 7 ≡ true → bad_from (HeaderByte i) i (drop i bs) ≡ None → bad_from (HeaderByte (i + 1)) (i + 1) (drop (i + 1) bs) ≡ None
   header-on i t h =
       let g = goes (HeaderByte i) i refl h in
       let k = when-next (is_header i (get_or bs i 0)) _ _ g.leads in
@@ -112,7 +112,7 @@ module _ (bs : List ℕ) where
 
   record Headed : Type 0 where
     inside : 9 ≤ length bs
-    fine : bad_from (directives_left (get_or bs 7 0) (get_or bs 8 0)) 9 (drop 9 bs) ≡ none
+    fine : bad_from (directives_left (get_or bs 7 0) (get_or bs 8 0)) 9 (drop 9 bs) ≡ None
 
   headed : HasForm bs → Headed
   headed h =
@@ -134,23 +134,23 @@ module _ (bs : List ℕ) where
   form-clauses h = let g = headed h in (laid-directives (get_or bs 7 0) (get_or bs 8 0) 9 g.inside g.fine).1
 
   -- a valid book's form is right
-  pub valid-form : book_fault bs ≡ none → HasForm bs
+  pub valid-form : book_fault bs ≡ None → HasForm bs
   unfolding book_fault
   valid-form h = go (bad_from (HeaderByte 0) 0 bs) _ h
     where
-      go : (a b : Option ℕ) → or_else a b ≡ none → a ≡ none
-      go none b e = refl
-      go (some p) b e = e
+      go : (a b : Option ℕ) → or_else a b ≡ None → a ≡ None
+      go None b e = refl
+      go (Some p) b e = e
 
 -- a book is valid exactly if its check says so
-no-fault : (o : Option ℕ) → ◌≡◌ {A = Answer (Unit {0})} (given tt) (unless_fault 4 o (given tt)) → o ≡ none
-no-fault none e = refl
-no-fault (some p) e = let z : ◌≡◌ {A = ℕ} 0 1 = cc in absurd (omega arith)
+no-fault : (o : Option ℕ) → ◌≡◌ {A = Answer (Unit {0})} (given tt) (unless_fault 4 o (given tt)) → o ≡ None
+no-fault None e = refl
+no-fault (Some p) e = let z : ◌≡◌ {A = ℕ} 0 1 = cc in absurd (omega arith)
 
-pub valid-book : (bs : List ℕ) → given tt ≡ book_call bs → book_fault bs ≡ none
+pub valid-book : (bs : List ℕ) → given tt ≡ book_call bs → book_fault bs ≡ None
 unfolding book_call
 valid-book bs e = no-fault (book_fault bs) e
 
-pub not_valid : {X : Type 0} (bs : List ℕ) (r : Refusal) → refused_by r ≡ book_call bs → book_fault bs ≡ none → X
+pub not_valid : {X : Type 0} (bs : List ℕ) (r : Refusal) → refused_by r ≡ book_call bs → book_fault bs ≡ None → X
 unfolding book_call
 not_valid bs r e v = let q : refused_by {A = Unit {0}} r ≡ given tt = rw v at e in let z : ◌≡◌ {A = ℕ} 0 1 = cc in absurd (omega arith)

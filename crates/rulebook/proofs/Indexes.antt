@@ -1,7 +1,7 @@
 -- The index of a book is whole once both kinds of its entries are in it; of a book with a fault nothing is said.
 -- Assumes nothing.
 use mathlib.Core.Path.{◌≡◌, refl, sym, ◌∙◌}
-use mathlib.Core.Option.{some, none}
+use Rattle.std.specs.Prelude.{Some, None}
 use mathlib.Core.List.{List, []}
 use Prim.Native.Nat.{ℕ, zero, suc, ◌+◌, ◌*◌}
 use native.Mathlib.Omega.{arith}
@@ -45,20 +45,20 @@ indexed-still first n bs before after k i = record {
 }
 
 module _ (bs : List ℕ) where
-  pub faulty : (index : List ℕ) (p : ℕ) → book_fault bs ≡ some p → Indexes bs index
+  pub faulty : (index : List ℕ) (p : ℕ) → book_fault bs ≡ Some p → Indexes bs index
   faulty index p e = record { directives = λ h. absurd (some-none (sym e ∙ h)); clauses = λ h. absurd (some-none (sym e ∙ h)) }
 
   -- what the call gives for a fault, or for none
-  pub call-refused : (p : ℕ) → book_fault bs ≡ some p → refused 4 p ≡ book_call bs
+  pub call-refused : (p : ℕ) → book_fault bs ≡ Some p → refused 4 p ≡ book_call bs
   unfolding book_call
   call-refused p e = rw e
 
-  pub call-given : book_fault bs ≡ none → given tt ≡ book_call bs
+  pub call-given : book_fault bs ≡ None → given tt ≡ book_call bs
   unfolding book_call
   call-given e = rw e
 
   -- the book's fault: in its form, or else a directive that repeats another, or else a clause
-  pub fault-form : (p : ℕ) → bad_from (HeaderByte 0) 0 bs ≡ some p → book_fault bs ≡ some p
+  pub fault-form : (p : ℕ) → bad_from (HeaderByte 0) 0 bs ≡ Some p → book_fault bs ≡ Some p
   unfolding book_fault
   fault-form p e = rw e
 
@@ -66,11 +66,11 @@ module _ (bs : List ℕ) where
   unfolding book_fault
   fault-repeat f = rw f
 
-  pub fault-first : (p : ℕ) → HasForm bs → repeat_from [] (book_of bs).directives ≡ some p → book_fault bs ≡ some p
+  pub fault-first : (p : ℕ) → HasForm bs → repeat_from [] (book_of bs).directives ≡ Some p → book_fault bs ≡ Some p
   unfolding book_fault
   fault-first p f d = rw (f, d)
 
-  pub fault-left : HasForm bs → repeat_from [] (book_of bs).directives ≡ none → book_fault bs ≡ repeat_from [] (book_of bs).clauses
+  pub fault-left : HasForm bs → repeat_from [] (book_of bs).directives ≡ None → book_fault bs ≡ repeat_from [] (book_of bs).clauses
   unfolding book_fault
   fault-left f d = rw (f, d)
 
@@ -93,10 +93,10 @@ module _ (bs : List ℕ) where
     count-clauses = rw e
 
     -- both kinds are in the index
-    pub whole : (before after : List ℕ) → repeat_from [] (entries_in h.directives bs) ≡ none
+    pub whole : (before after : List ℕ) → repeat_from [] (entries_in h.directives bs) ≡ None
         → Indexed h.directives.lead h.directives.first h.directives.count bs before
         → Elsewhere h.clauses.lead before after
-        → (repeat_from [] (entries_in h.clauses bs) ≡ none → Indexed h.clauses.lead h.clauses.first h.clauses.count bs after)
+        → (repeat_from [] (entries_in h.clauses bs) ≡ None → Indexed h.clauses.lead h.clauses.first h.clauses.count bs after)
         → HasForm bs → Indexes bs after
     whole before after d i k c f = record {
       directives = λ b. rw (← e) (record {
@@ -104,6 +104,6 @@ module _ (bs : List ℕ) where
         single = d;
       });
       clauses = λ b.
-          let s : repeat_from [] (entries_in h.clauses bs) ≡ none = rw (book-clauses bs h e) at (sym (fault-left f (rw (book-directives bs h e) d)) ∙ b) in
+          let s : repeat_from [] (entries_in h.clauses bs) ≡ None = rw (book-clauses bs h e) at (sym (fault-left f (rw (book-directives bs h e) d)) ∙ b) in
           rw (← e) (record { told = c s; single = s });
     }

@@ -2,7 +2,7 @@
 -- keeps that so; and where no name repeats another, the last entry with a name is the first. Assumes nothing.
 use mathlib.Core.Path.{◌≡◌, refl, sym, ap, ◌∙◌}
 use mathlib.Core.Bool.{Bool, true, false, cond, ◌&&◌, ◌||◌, true≢false}
-use mathlib.Core.Option.{Option, some, none}
+use Rattle.std.specs.Prelude.{Option, Some, None}
 use mathlib.Core.List.{List, [], ◌∷◌, ◌++◌, append_assoc, append-nil}
 use Prim.Native.Nat.{ℕ, zero, suc, ◌+◌, ◌-◌, ◌*◌, ◌<◌, ◌≤◌}
 use native.Mathlib.Numerals.{add-one}
@@ -184,22 +184,22 @@ find-snoc f name (d ∷ ds) e i = go (same_by f d.name name) (find-snoc f name d
     go true h = refl
     go false h = let q : i + suc (length ds) ≡ suc i + length ds = omega arith in rw q h
 
-pub some-none : {n : ℕ} → ◌≡◌ {A = Option ℕ} (some n) none → ⊥
+pub some-none : {n : ℕ} → ◌≡◌ {A = Option ℕ} (Some n) None → ⊥
 some-none e = let z : ◌≡◌ {A = ℕ} 0 1 = cc in omega arith
 
-repeat-snoc : (earlier es : List Entry) (e : Entry) → repeat_from earlier (es ++ (e ∷ [])) ≡ none → (repeat_from earlier es ≡ none) × (is_named fold e.name (earlier ++ es) ≡ false)
+repeat-snoc : (earlier es : List Entry) (e : Entry) → repeat_from earlier (es ++ (e ∷ [])) ≡ None → (repeat_from earlier es ≡ None) × (is_named fold e.name (earlier ++ es) ≡ false)
 unfolding repeat_from
 repeat-snoc earlier [] e h = go (is_named fold e.name earlier) refl h
   where
-    go : (t : Bool) → is_named fold e.name earlier ≡ t → cond t (some e.at) none ≡ none → (repeat_from earlier [] ≡ none) × (is_named fold e.name (earlier ++ []) ≡ false)
+    go : (t : Bool) → is_named fold e.name earlier ≡ t → cond t (Some e.at) None ≡ None → (repeat_from earlier [] ≡ None) × (is_named fold e.name (earlier ++ []) ≡ false)
     go true q h = absurd (some-none h)
     go false q h = (refl, rw (append-nil earlier) q)
 repeat-snoc earlier (d ∷ ds) e h = go (is_named fold d.name earlier) (repeat-snoc (earlier ++ (d ∷ [])) ds e) h
   where
     go : (t : Bool)
-        → (repeat_from (earlier ++ (d ∷ [])) (ds ++ (e ∷ [])) ≡ none → (repeat_from (earlier ++ (d ∷ [])) ds ≡ none) × (is_named fold e.name ((earlier ++ (d ∷ [])) ++ ds) ≡ false))
-        → cond t (some d.at) (repeat_from (earlier ++ (d ∷ [])) (ds ++ (e ∷ []))) ≡ none
-        → (cond t (some d.at) (repeat_from (earlier ++ (d ∷ [])) ds) ≡ none) × (is_named fold e.name (earlier ++ (d ∷ ds)) ≡ false)
+        → (repeat_from (earlier ++ (d ∷ [])) (ds ++ (e ∷ [])) ≡ None → (repeat_from (earlier ++ (d ∷ [])) ds ≡ None) × (is_named fold e.name ((earlier ++ (d ∷ [])) ++ ds) ≡ false))
+        → cond t (Some d.at) (repeat_from (earlier ++ (d ∷ [])) (ds ++ (e ∷ []))) ≡ None
+        → (cond t (Some d.at) (repeat_from (earlier ++ (d ∷ [])) ds) ≡ None) × (is_named fold e.name (earlier ++ (d ∷ ds)) ≡ false)
     go true ih h = absurd (some-none h)
     go false ih h =
         let r = ih h in
@@ -292,7 +292,7 @@ module _ (lead first : ℕ) (bs : List ℕ) where
       go false q = ih ∙ none-else (find_from (comparing ic) 0 name (entries_from lead n first bs))
 
   -- where no name repeats another, the last entry with a name is the first
-  pub last-is-first : (ic : Bool) (name : List ℕ) (n : ℕ) → repeat_from [] (entries_from lead n first bs) ≡ none
+  pub last-is-first : (ic : Bool) (name : List ℕ) (n : ℕ) → repeat_from [] (entries_from lead n first bs) ≡ None
       → last_named (comparing ic) name lead first bs n ≡ find_from (comparing ic) 0 name (entries_from lead n first bs)
   unfolding last_named find_from entries_from
   last-is-first ic name zero h = refl

@@ -2,7 +2,7 @@
 -- Assumes nothing.
 use mathlib.Core.Path.{◌≡◌, refl}
 use mathlib.Core.Bool.{Bool, true, false, cond, ◌||◌}
-use mathlib.Core.Option.{some, none}
+use Rattle.std.specs.Prelude.{Some, None}
 use mathlib.Core.List.{List, [], ◌∷◌}
 use Prim.Native.Nat.{ℕ, suc, ◌+◌}
 use native.Mathlib.Numerals.{add-one}
@@ -32,7 +32,7 @@ named-found f i name (e ∷ es) = go (same_by f e.name name) (named-found f (suc
     go false h = h
 
 module _ (lead : ℕ) (bs : List ℕ) (n m at : ℕ) (r : Range) (e : n ≡ m + 1) (q : r ≡ name_at lead at bs) where
-  pub repeat-here : (earlier : List Entry) → is_named fold (part bs r) earlier ≡ true → repeat_from earlier (entries_from lead n at bs) ≡ some at
+  pub repeat-here : (earlier : List Entry) → is_named fold (part bs r) earlier ≡ true → repeat_from earlier (entries_from lead n at bs) ≡ Some at
   unfolding entries_from repeat_from
   repeat-here earlier h = rw (e, add-one m, rw q at h)
 
@@ -41,6 +41,6 @@ module _ (lead : ℕ) (bs : List ℕ) (n m at : ℕ) (r : Range) (e : n ≡ m + 
   unfolding entries_from repeat_from
   repeat-later done first p h = rw (e, add-one m, rw q at h, q, entries-snoc lead bs done first, ← p)
 
-pub repeat-none : (lead : ℕ) (bs : List ℕ) (n at : ℕ) (earlier : List Entry) → n ≡ 0 → repeat_from earlier (entries_from lead n at bs) ≡ none
+pub repeat-none : (lead : ℕ) (bs : List ℕ) (n at : ℕ) (earlier : List Entry) → n ≡ 0 → repeat_from earlier (entries_from lead n at bs) ≡ None
 unfolding entries_from repeat_from
 repeat-none lead bs n at earlier e = rw e

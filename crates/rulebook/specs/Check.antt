@@ -1,6 +1,6 @@
 -- The book check: the first fault of a book, row 4 of the table.
 use Rattle.std.specs.Prelude.{ℕ, Bool, false, cond, ◌||◌, List, [], ◌∷◌, ◌++◌, ◌≡◌}
-use Rattle.std.proofs.Math.Option.{Option, some, none}
+use Rattle.std.specs.Prelude.{Option, Some, None}
 use Rattle.ascii.specs.Ascii.{fold}
 use Rattle.ascii.specs.Text.{same_by}
 use Rattle.refusal.specs.Answer.{Answer, given, refused_by, unless_fault}
@@ -20,12 +20,12 @@ is_named f name (e ∷ es) = same_by f e.name name || is_named f name es
 -- "the first byte of the first entry that repeats an earlier name", "equal ignoring case"
 unfoldable pub repeat_from : List Entry → List Entry → Option ℕ
 unfolding is_named
-repeat_from earlier [] = none
-repeat_from earlier (e ∷ es) = cond (is_named fold e.name earlier) (some e.at) (repeat_from (earlier ++ (e ∷ [])) es)
+repeat_from earlier [] = None
+repeat_from earlier (e ∷ es) = cond (is_named fold e.name earlier) (Some e.at) (repeat_from (earlier ++ (e ∷ [])) es)
 
 abbrev pub or_else : Option ℕ → Option ℕ → Option ℕ
-or_else none b = b
-or_else (some p) b = some p
+or_else None b = b
+or_else (Some p) b = Some p
 
 -- row 4: "first bad byte, its end if cut; with no such fault, the first byte of the first entry that repeats an earlier name".
 -- "No two directive names, and no two clause names, are equal": the two kinds apart. "A book is valid if row 4 of the table finds nothing in it."
@@ -45,4 +45,4 @@ book_gives (Refused r) = refused_by r
 -- what a check leaves: the verdict on the book, and the header of a valid one
 pub record Stands (bs : List ℕ) (c : CheckedBook) : Type 0 where
   pub judged : book_gives c.verdict ≡ book_call bs
-  pub known : book_fault bs ≡ none → c.header ≡ header_of bs
+  pub known : book_fault bs ≡ None → c.header ≡ header_of bs

@@ -1,6 +1,6 @@
 -- Books with their faults, evaluated: each rule of the book's form, broken at the first byte that can break it.
 use Rattle.std.specs.Prelude.{ℕ, ◌≡◌, refl, List, [], ◌∷◌, ◌++◌, map, length, take}
-use Rattle.std.proofs.Math.Option.{Option, some, none}
+use Rattle.std.specs.Prelude.{Option, Some, None}
 use Rattle.ascii.specs.Text.{bytes, same_by}
 use Rattle.bookform.specs.Format.{bad_from}
 use Rattle.rulebook.specs.Book.{entries_from, place_after, clauses_of, header_of, book_of}
@@ -54,35 +54,35 @@ pub faults :
     ∷ []
     )
     ≡ (
-    some 0
-    ∷ some 2
-    ∷ some 3
-    ∷ some 3
-    ∷ some 4
-    ∷ some 5
-    ∷ some 6
-    ∷ some 7
-    ∷ some 9
-    ∷ none
-    ∷ some 25
-    ∷ some 26
-    ∷ some 9
-    ∷ some 9
-    ∷ some 10
-    ∷ some 10
-    ∷ some 11
-    ∷ some 12
-    ∷ some 12
-    ∷ none
-    ∷ some 11
-    ∷ some 11
-    ∷ some 11
-    ∷ some 14
-    ∷ some 11
-    ∷ some 15
-    ∷ none
-    ∷ some 13
-    ∷ some 14
+    Some 0
+    ∷ Some 2
+    ∷ Some 3
+    ∷ Some 3
+    ∷ Some 4
+    ∷ Some 5
+    ∷ Some 6
+    ∷ Some 7
+    ∷ Some 9
+    ∷ None
+    ∷ Some 25
+    ∷ Some 26
+    ∷ Some 9
+    ∷ Some 9
+    ∷ Some 10
+    ∷ Some 10
+    ∷ Some 11
+    ∷ Some 12
+    ∷ Some 12
+    ∷ None
+    ∷ Some 11
+    ∷ Some 11
+    ∷ Some 11
+    ∷ Some 14
+    ∷ Some 11
+    ∷ Some 15
+    ∷ None
+    ∷ Some 13
+    ∷ Some 14
     ∷ []
     )
 unfolding same_by bad_from entries_from place_after clauses_of header_of book_of is_named repeat_from book_fault

@@ -1,7 +1,7 @@
 -- The index of a book: for each signature the last entry that has it, and for each entry the one before it with the same signature.
 -- It is made with the check of the book, and look-ups under the book go by it. A slot is 0 if there is no such entry.
 use Rattle.std.specs.Prelude.{ℕ, zero, suc, ◌+◌, ◌-◌, ◌*◌, ◌/◌, ◌<◌, ◌≤◌, cond, List, [], ◌≡◌, length, get_or, eqb}
-use Rattle.std.proofs.Math.Option.{none}
+use Rattle.std.specs.Prelude.{None}
 use Rattle.ascii.specs.Text.{part, same_by}
 use Rattle.bookform.specs.declared.Entries.{Entries}
 use Rattle.rulebook.specs.declared.EntryFound.{EntryFound}
@@ -58,9 +58,9 @@ pub record Elsewhere (lead : ℕ) (before after : List ℕ) : Type 0 where
 -- What a look-up among entries needs: the index tells of all of them, and no two of them have one name.
 pub record Looked (es : Entries) (bs index : List ℕ) : Type 0 where
   pub told : Indexed es.lead es.first es.count bs index
-  pub single : repeat_from [] (entries_in es bs) ≡ none
+  pub single : repeat_from [] (entries_in es bs) ≡ None
 
 -- An index of a book: if the book is valid it tells of the entries of both kinds.
 pub record Indexes (bs index : List ℕ) : Type 0 where
-  pub directives : book_fault bs ≡ none → Looked (header_of bs).directives bs index
-  pub clauses : book_fault bs ≡ none → Looked (header_of bs).clauses bs index
+  pub directives : book_fault bs ≡ None → Looked (header_of bs).directives bs index
+  pub clauses : book_fault bs ≡ None → Looked (header_of bs).clauses bs index

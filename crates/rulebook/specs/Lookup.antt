@@ -1,6 +1,6 @@
 -- Looking a name up in a book, and books with clause names appended.
 use Rattle.std.specs.Prelude.{ℕ, zero, suc, cond, ◌≡◌, List, [], ◌∷◌, ◌++◌, map}
-use Rattle.std.proofs.Math.Option.{Option, some, none}
+use Rattle.std.specs.Prelude.{Option, Some, None}
 use Rattle.ascii.specs.Text.{same_by, comparing}
 use Rattle.bookform.specs.declared.ClauseRule.{ClauseRule}
 use Rattle.rulebook.specs.declared.ClauseEntry.{ClauseEntry}
@@ -15,8 +15,8 @@ comparison book = comparing book.ignores_case
 -- the index of the first entry with a name, counted from i ("`HashMap`: the book in order; the names are distinct, so the answer is equal")
 unfoldable pub entry_from : (ℕ → ℕ) → ℕ → List ℕ → List Entry → Option ℕ
 unfolding same_by
-entry_from f i name [] = none
-entry_from f i name (e ∷ es) = cond (same_by f e.name name) (some i) (entry_from f (suc i) name es)
+entry_from f i name [] = None
+entry_from f i name (e ∷ es) = cond (same_by f e.name name) (Some i) (entry_from f (suc i) name es)
 
 -- the same entry with its place
 unfoldable pub find_from : (ℕ → ℕ) → ℕ → List ℕ → List Entry → EntryFound
@@ -29,8 +29,8 @@ abbrev pub no_entry : ℕ
 no_entry = 65535
 
 abbrev pub index_or : Option ℕ → ℕ
-index_or none = no_entry
-index_or (some i) = i
+index_or None = no_entry
+index_or (Some i) = i
 
 -- the rule of the entry with an index
 unfoldable pub rule_at : ClauseRule → ℕ → List Entry → ClauseRule
@@ -41,8 +41,8 @@ rule_at default (suc i) (e ∷ es) = rule_at default i es
 
 -- the rule of a clause: its entry's, or else the default
 abbrev pub rule_or : ClauseRule → Option ℕ → List Entry → ClauseRule
-rule_or default none es = default
-rule_or default (some i) es = rule_at default i es
+rule_or default None es = default
+rule_or default (Some i) es = rule_at default i es
 
 -- the entry of a clause's name and its rule
 unfoldable pub clause_entry : Book → List ℕ → ClauseEntry

@@ -1,6 +1,5 @@
 // Names that repeat earlier ones, found by the index that is made on the way.
 ghost use Rattle.std.specs.Prelude.{◌≡◌, [], ◌<◌, ◌≤◌};
-ghost use Rattle.std.proofs.Math.Option.{none};
 ghost use Rattle.ascii.specs.Ascii.{fold};
 ghost use Rattle.ascii.specs.Text.{found_at};
 ghost use Rattle.rulebook.specs.Book.{place_after, entries_in, LaidIn, header_of, book_of};
@@ -47,8 +46,8 @@ fn repeat_among(book: &[u8], entries: Entries, index: &mut [u32]) -> Repeats
     requires blank { Blank entries.lead index.old }
     ensures found_value { found_at result.found ≡ repeat_from [] (entries_in entries book.now) }
     ensures elsewhere { Elsewhere entries.lead index.old index.new }
-    ensures indexed { found_at result.found ≡ none → Indexed entries.lead entries.first entries.count book.now index.new }
-    ensures end_value { found_at result.found ≡ none → result.end ≡ place_after entries.lead entries.count entries.first book.now }
+    ensures indexed { found_at result.found ≡ None → Indexed entries.lead entries.first entries.count book.now index.new }
+    ensures end_value { found_at result.found ≡ None → result.end ≡ place_after entries.lead entries.count entries.first book.now }
 {
     let lead = entries.lead;
     let first = entries.first;
@@ -91,7 +90,7 @@ pub fn first_repeat(book: &[u8], index: &mut [u32]) -> Repeats
     requires fresh { Fresh index.old }
     ensures found_value { found_at result.found ≡ or_else (repeat_from [] (book_of book.now).directives) (repeat_from [] (book_of book.now).clauses) }
     ensures indexes { Indexes book.now index.new }
-    ensures end_value { found_at result.found ≡ none → result.end ≡ (header_of book.now).clauses.first }
+    ensures end_value { found_at result.found ≡ None → result.end ≡ (header_of book.now).clauses.first }
 {
     let directives = directives_of(book);
     let first = repeat_among(book, directives, index);

@@ -2,7 +2,7 @@
 -- Assumes nothing.
 use mathlib.Core.Path.{◌≡◌, refl, sym, ap, ◌∙◌}
 use mathlib.Core.Bool.{Bool, true, false, cond}
-use mathlib.Core.Option.{Option, some, none}
+use Rattle.std.specs.Prelude.{Option, Some, None}
 use mathlib.Core.List.{List, []}
 use Prim.Native.Nat.{ℕ, suc, ◌≤◌, ◌<◌}
 use native.Mathlib.Omega.{arith}
@@ -40,8 +40,8 @@ then-second (Bad r) w e = let z : ◌≡◌ {A = ℕ} 0 1 = cc in absurd (omega 
 
 room-refused : {A : Type 0} (b : Bool) (o : Option ℕ) (a : Answer A) → or_refused (cond b short_buffer (fault_by InvalidLine o)) a ≡ cond b (refused 3 0) (unless_fault 6 o a)
 room-refused true o a = refl
-room-refused false none a = refl
-room-refused false (some p) a = refl
+room-refused false None a = refl
+room-refused false (Some p) a = refl
 
 room-fine : (b : Bool) (v : Verdict) → cond b short_buffer v ≡ Fine → b ≡ false
 room-fine false v e = refl
@@ -80,7 +80,7 @@ module _ (content : List ℕ) (size : ℕ) where
   copy-answer =
       let a : Answer ℕ = given (length (collapsed content)) in
       let w = cond (ltb size (length content)) short_buffer Fine in
-      sym (then-refused (text_verdict content) w a ∙ admits content (or_refused w a) ∙ ap (admitted content) (room-refused (ltb size (length content)) none a))
+      sym (then-refused (text_verdict content) w a ∙ admits content (or_refused w a) ∙ ap (admitted content) (room-refused (ltb size (length content)) None a))
 
   pub copy-bad : (r : Refusal) → copy_verdict content size ≡ Bad r → copy_call content size ≡ record { answer = refused_by r; copy = padded 0 size [] }
   unfolding copy_call

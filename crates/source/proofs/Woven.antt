@@ -3,7 +3,7 @@
 use Prim.Native.Nat.{ℕ, zero, suc, ◌+◌, ◌≤◌, ◌<◌}
 use native.Mathlib.Omega.{arith}
 use mathlib.Core.Bool.{Bool, true, false, cond, not, and-false}
-use mathlib.Core.Option.{none}
+use Rattle.std.specs.Prelude.{None}
 use mathlib.Core.Path.{◌≡◌, refl, sym, ap, ◌∙◌}
 use mathlib.Core.List.{List, [], ◌∷◌, ◌++◌, map, reverse, reverse-append}
 use lib.ListN.{length, take, drop, get_or, length-map}
@@ -40,7 +40,7 @@ fits (byte b n r w) = omega (arith, fits w)
 fits (short w) = omega (arith, fits w)
 fits (long w) = omega (arith, fits w)
 
-pub low : {t xs : List ℕ} (at : ℕ) → Woven t xs → first_high at xs ≡ none
+pub low : {t xs : List ℕ} (at : ℕ) → Woven t xs → first_high at xs ≡ None
 unfolding first_high
 low at bare = refl
 low at (byte {x = x} b n r w) = rw (le-ltb 127 x (omega arith)) (low (suc at) w)
@@ -117,13 +117,13 @@ module _ (p : Prefix) (later : Bool) (at : ℕ) (xs : List ℕ) where
       (rw (and-false later, d, g, eqb-suc-zero e, ends pre a, length-leading (λ b. not (is_eol b)) xs, q))
       (rw (drop-drop, q) at h)
 
-fault-good : (p : Prefix) (at x : ℕ) (xs : List ℕ) → Good p (ltb 0 at) at (x ∷ xs) → ((k : ℕ) → Any (drop k xs) → fault_from C p k (suc at) xs ≡ none)
-    → fault_from C p 0 at (x ∷ xs) ≡ none
+fault-good : (p : Prefix) (at x : ℕ) (xs : List ℕ) → Good p (ltb 0 at) at (x ∷ xs) → ((k : ℕ) → Any (drop k xs) → fault_from C p k (suc at) xs ≡ None)
+    → fault_from C p 0 at (x ∷ xs) ≡ None
 fault-good p at x xs (well e) ih = fault-fine C p at x xs e
 fault-good p at x xs (onward n e w) ih = fault-next C p at x xs n e ∙ ih n w
 
 -- the rest of a line, once k bytes are passed over, is in order if it is woven
-pub no-fault : (p : Prefix) (xs : List ℕ) (k at : ℕ) → Any (drop k xs) → fault_from C p k at xs ≡ none
+pub no-fault : (p : Prefix) (xs : List ℕ) (k at : ℕ) → Any (drop k xs) → fault_from C p k at xs ≡ None
 unfolding fault_from
 no-fault p [] k at w = fault-nil C p k at
 no-fault p (x ∷ xs) (suc k) at w = no-fault p xs k (suc at) w

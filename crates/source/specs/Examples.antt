@@ -1,6 +1,6 @@
 -- Examples of joining, validation, map-back and content copy, evaluated.
 use Rattle.std.specs.Prelude.{◌≡◌, refl, [], ◌∷◌, ◌++◌}
-use Rattle.std.proofs.Math.Option.{some, none}
+use Rattle.std.specs.Prelude.{Some, None}
 use Rattle.ascii.specs.Text.{bytes, leading, begins, first_high}
 use Rattle.refusal.specs.Answer.{given, refused}
 use Rattle.lexer.specs.declared.Language.TheVariants.{C, FortranFree}
@@ -15,14 +15,14 @@ pub joins :
     (join_call C Omp (bytes "a\\\nb") 4 5 ≡ record { answer = given 2; text = bytes "ab" ++ (0 ∷ 0 ∷ []); map = 0 ∷ 3 ∷ 4 ∷ 0 ∷ 0 ∷ [] })
     × (join_call C Omp (bytes "\\\\\n\n") 4 5 ≡ record { answer = given 2; text = bytes "\\\n" ++ (0 ∷ 0 ∷ []); map = 0 ∷ 3 ∷ 4 ∷ 0 ∷ 0 ∷ [] })
     × (join_call C Omp (bytes "x\r") 2 3 ≡ record { answer = refused 6 1; text = 0 ∷ 0 ∷ []; map = 0 ∷ 0 ∷ 0 ∷ [] })
-    × (fault FortranFree Omp (bytes "!$omp a &" ++ (11 ∷ 10 ∷ bytes " b")) ≡ none)
+    × (fault FortranFree Omp (bytes "!$omp a &" ++ (11 ∷ 10 ∷ bytes " b")) ≡ None)
     × (joined_text FortranFree (bytes "!$omp a &" ++ (11 ∷ 10 ∷ bytes " b")) ≡ bytes "!$omp a &" ++ (11 ∷ 10 ∷ bytes " b"))
     × (joined_text FortranFree (bytes "a&\n !$omp b") ≡ bytes "a b")
     × (joined_text FortranFree (bytes "a &\n&\nb") ≡ bytes "a \nb")
-    × (fault FortranFree Omp (bytes "a &\n !$acc b") ≡ some 5)
-    × (fault FortranFree Omp (bytes "a'&\nb'&!\nc") ≡ some 8)
-    × (fault FortranFree Omp (bytes "a!&\nb") ≡ some 3)
-    × (fault FortranFree Omp (bytes "!$ompa&\nb") ≡ some 7)
+    × (fault FortranFree Omp (bytes "a &\n !$acc b") ≡ Some 5)
+    × (fault FortranFree Omp (bytes "a'&\nb'&!\nc") ≡ Some 8)
+    × (fault FortranFree Omp (bytes "a!&\nb") ≡ Some 3)
+    × (fault FortranFree Omp (bytes "!$ompa&\nb") ≡ Some 7)
 unfolding leading begins first_high break_c break_f sentinel sentinel_ended sentinel_any eol comment_f marker lead code_length ends_in continued_f check_line fault_from fault kept_from joined_text joined_map join_answer join_call
 joins = (refl, refl, refl, refl, refl, refl, refl, refl, refl, refl, refl)
 

@@ -4,7 +4,7 @@ use Prim.Native.Nat.{ℕ, zero, suc, ◌+◌, ◌-◌, ◌<◌, ◌≤◌}
 use native.Mathlib.Nat.{add-zero}
 use native.Mathlib.Omega.{arith}
 use mathlib.Core.Bool.{Bool, cond, ◌&&◌}
-use mathlib.Core.Option.{some, none}
+use Rattle.std.specs.Prelude.{Some, None}
 use mathlib.Core.Path.{◌≡◌, refl}
 use mathlib.Core.List.{List, [], ◌∷◌}
 use lib.ListN.{length, take, drop, get_or, length-drop, drop_of_length-le}
@@ -22,7 +22,7 @@ pub length-leading : (q : ℕ → Bool) (xs : List ℕ) → length (take (leadin
 length-leading q xs = length-take-le (leading q xs) xs (leading_le q xs)
 
 module _ (l : Language) (p : Prefix) where
-  pub fault-nil : (k at : ℕ) → fault_from l p k at [] ≡ none
+  pub fault-nil : (k at : ℕ) → fault_from l p k at [] ≡ None
   unfolding fault_from
   fault-nil zero at = refl
   fault-nil (suc k) at = refl
@@ -38,11 +38,11 @@ module _ (l : Language) (p : Prefix) where
 
   -- where a physical line begins: the three things that its check may say
   module _ (at x : ℕ) (xs : List ℕ) where
-    pub fault-fine : check_line l p (ltb 0 at) at (x ∷ xs) ≡ Fine → fault_from l p 0 at (x ∷ xs) ≡ none
+    pub fault-fine : check_line l p (ltb 0 at) at (x ∷ xs) ≡ Fine → fault_from l p 0 at (x ∷ xs) ≡ None
     unfolding fault_from
     fault-fine e = rw (e, fault_from)
 
-    pub fault-wrong : (q : ℕ) → check_line l p (ltb 0 at) at (x ∷ xs) ≡ WrongAt q → fault_from l p 0 at (x ∷ xs) ≡ some q
+    pub fault-wrong : (q : ℕ) → check_line l p (ltb 0 at) at (x ∷ xs) ≡ WrongAt q → fault_from l p 0 at (x ∷ xs) ≡ Some q
     unfolding fault_from
     fault-wrong q e = rw (e, fault_from)
 
@@ -54,13 +54,13 @@ module _ (l : Language) (p : Prefix) where
 
   -- the same at the place i of a line
   module _ (line : List ℕ) (i : ℕ) where
-    pub fault-end : length line ≤ i → fault_from l p 0 i (drop i line) ≡ none
+    pub fault-end : length line ≤ i → fault_from l p 0 i (drop i line) ≡ None
     fault-end h = rw (drop_of_length-le line h) (fault-nil 0 i)
 
-    pub fault-fine-at : i < length line → check_line l p (ltb 0 i) i (drop i line) ≡ Fine → fault_from l p 0 i (drop i line) ≡ none
+    pub fault-fine-at : i < length line → check_line l p (ltb 0 i) i (drop i line) ≡ Fine → fault_from l p 0 i (drop i line) ≡ None
     fault-fine-at h e = rw (drop-cons line i 0) (fault-fine i (get_or line i 0) (drop (suc i) line) (rw (drop-cons line i 0) at e))
 
-    pub fault-wrong-at : (q : ℕ) → i < length line → check_line l p (ltb 0 i) i (drop i line) ≡ WrongAt q → fault_from l p 0 i (drop i line) ≡ some q
+    pub fault-wrong-at : (q : ℕ) → i < length line → check_line l p (ltb 0 i) i (drop i line) ≡ WrongAt q → fault_from l p 0 i (drop i line) ≡ Some q
     fault-wrong-at q h e = rw (drop-cons line i 0) (fault-wrong i (get_or line i 0) (drop (suc i) line) q (rw (drop-cons line i 0) at e))
 
     pub fault-next-at : (n : ℕ) → 0 < n → i < length line → check_line l p (ltb 0 i) i (drop i line) ≡ Next n

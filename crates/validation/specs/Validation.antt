@@ -1,6 +1,6 @@
 -- Validation of a logical line (`validate_logical_line`): each end of line that more text follows must be continued.
 use Rattle.std.specs.Prelude.{ℕ, zero, suc, ◌+◌, ◌-◌, ◌<◌, ◌≤◌, Bool, true, false, cond, not, ◌&&◌, ◌||◌, List, [], ◌∷◌, reverse, length, take, drop, eqb, ltb}
-use Rattle.std.proofs.Math.Option.{Option, some, none}
+use Rattle.std.specs.Prelude.{Option, Some, None}
 use Rattle.ascii.specs.Ascii.{is_trimmed, is_blank, is_eol}
 use Rattle.ascii.specs.Text.{starts, leading, is_blank_text, trimmed}
 use Rattle.lexer.specs.declared.Language.{Language}
@@ -93,11 +93,11 @@ module _ (l : Language) (p : Prefix) where
 
   -- physical line by physical line, once k bytes are passed over
   unfoldable pub fault_from : ℕ → ℕ → List ℕ → Option ℕ
-  fault_from zero at [] = none
-  fault_from (suc k) at [] = none
+  fault_from zero at [] = None
+  fault_from (suc k) at [] = None
   fault_from (suc k) at (x ∷ xs) = fault_from k (suc at) xs
   fault_from zero at (x ∷ xs) =
-      elim (check_line (ltb 0 at) at (x ∷ xs)) [ Fine ↦ none | WrongAt q ↦ some q | Next n ↦ fault_from (n - 1) (suc at) xs ]
+      elim (check_line (ltb 0 at) at (x ∷ xs)) [ Fine ↦ None | WrongAt q ↦ Some q | Next n ↦ fault_from (n - 1) (suc at) xs ]
 
   -- row 6, "validation fails, physical place": where a line first breaks the rule of its language
   unfoldable pub fault : List ℕ → Option ℕ

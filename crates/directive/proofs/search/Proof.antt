@@ -1,7 +1,7 @@
 -- `directive::search` meets its contract: from each place that the loop comes to, with its candidate and its last name, the search gives what it gives
 -- from the first. Assumes nothing.
 use mathlib.Core.Path.{◌≡◌, refl, sym, subst, ap, ◌∙◌}
-use mathlib.Core.Option.{Option, none}
+use Rattle.std.specs.Prelude.{Option, None}
 use mathlib.Core.Bool.{true}
 use mathlib.Core.List.{List, []}
 use Prim.Native.Nat.{ℕ, ◌-◌, ◌<◌, ◌≤◌}
@@ -25,7 +25,7 @@ invariant-loop-header book header index text from start buffer₀ place₀ len�
     × (len ≤ 512)
     × (length buffer ≡ 512)
     × Spaced (take len buffer)
-    × (name_from (book_of book) text from (take len buffer) (latest_of found) 0 place (drop place text) ≡ name_from (book_of book) text from [] none 0 start (drop start text))
+    × (name_from (book_of book) text from (take len buffer) (latest_of found) 0 place (drop place text) ≡ name_from (book_of book) text from [] None 0 start (drop start text))
     × (start ≤ place)
     × Good start (length text) (latest_of found)
 
@@ -85,7 +85,7 @@ turns : (n : tie.After-next_word invariant-loop-header decreases-loop-header) �
     let w : tie.After-push_word-len invariant-loop-header decreases-loop-header = n.before.before.before.before.before in
     let a = w.args in
     turned (book_of a.book.now) a.text.now a.from (grown w) (latest_of n.remember-found.result) n.next_word.result
-    ≡ name_from (book_of a.book.now) a.text.now a.from [] none 0 a.start (drop a.start a.text.now)
+    ≡ name_from (book_of a.book.now) a.text.now a.from [] None 0 a.start (drop a.start a.text.now)
 turns n =
     let w : tie.After-push_word-len invariant-loop-header decreases-loop-header = n.before.before.before.before.before in
     let a = w.args in
