@@ -1,5 +1,5 @@
 -- Bytes: the classes of document 01, and the questions that its steps ask of a byte.
-use Rattle.std.specs.Prelude.{ℕ, zero, suc, ◌+◌, ◌*◌, Bool, cond, not, ◌&&◌, ◌||◌, eqb, leb}
+use Rattle.std.specs.Prelude.{ℕ, ◌+◌, Bool, cond, not, ◌&&◌, ◌||◌, eqb, leb}
 
 -- a byte from low to high, both included
 abbrev pub within : ℕ → ℕ → ℕ → Bool
@@ -54,12 +54,3 @@ class_of b =
     (cond (is_upper b) 6
     (cond (is_letter b) 7
     (cond (eqb b 95) 8 0)))))))
-
--- the classes of n bytes from b on as one number, the first in its lowest four bits
-abbrev pub classes_from : ℕ → ℕ → ℕ
-classes_from b zero = 0
-classes_from b (suc n) = class_of b + 16 * classes_from (suc b) n
-
--- sixteen of them, from byte 16 k on: how the table's answers lie in memory, no rule of document 01
-unfoldable pub row_of : ℕ → ℕ
-row_of k = classes_from (16 * k) 16

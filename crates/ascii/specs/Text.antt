@@ -4,11 +4,7 @@ use Prim.Native.Char.{code}
 use Prim.Native.String as S
 use Rattle.std.specs.Prelude.{Option, Some, None}
 use Rattle.ascii.specs.declared.Range.{Range}
-use Rattle.ascii.specs.declared.Found.{Found}
-use Rattle.ascii.specs.declared.Found.TheVariants.{At, Nothing}
-use Rattle.ascii.specs.declared.ByteSet.{ByteSet}
-use Rattle.ascii.specs.declared.ByteSet.TheVariants.{Trimmed, Space, Blank, Word, InLine}
-use Rattle.ascii.specs.Ascii.{is_trimmed, is_space, is_blank, is_eol, is_word, fold, exactly}
+use Rattle.ascii.specs.Ascii.{is_trimmed, is_eol, fold, exactly}
 
 -- the bytes of a quoted text
 abbrev pub bytes : S.String → List ℕ
@@ -77,19 +73,10 @@ first_high at (x ∷ xs) = cond (ltb 127 x) (Some at) (first_high (suc at) xs)
 abbrev pub padded : {A : Type 0} → A → ℕ → List A → List A
 padded z size xs = xs ++ replicate (size - length xs) z
 
--- the declared answer of a search
-abbrev pub found_at : Found → Option ℕ
-found_at Nothing = None
-found_at (At i) = Some i
-
 -- how bytes compare: with case ignored or not
 abbrev pub comparing : Bool → ℕ → ℕ
 comparing ignore_case = cond ignore_case fold exactly
 
--- the bytes of a named set
-abbrev pub holds : ByteSet → ℕ → Bool
-holds Trimmed = is_trimmed
-holds Space = is_space
-holds Blank = is_blank
-holds Word = is_word
-holds InLine = λ b. not (is_eol b)
+-- any byte but LF and CR
+abbrev pub is_in_line : ℕ → Bool
+is_in_line b = not (is_eol b)

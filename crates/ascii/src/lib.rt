@@ -2,34 +2,19 @@
 #![tactic(auto)]
 
 pub mod class;
+pub mod sets;
 
 ghost use Rattle.std.specs.Prelude.{◌≡◌, reverse, ◌++◌, ◌+◌, ◌-◌, ◌≤◌, length, take, drop, get_or, eqb};
 ghost use Rattle.ascii.specs.Ascii.{is_trimmed};
-ghost use Rattle.ascii.specs.Text.{leading, trimmed, LentPart, trim_call, begins, same_by, first_high, found_at, comparing, holds};
+ghost use Rattle.ascii.specs.Text.{leading, trimmed, LentPart, trim_call, begins, first_high, comparing};
+
+use sets::{ByteSet, Trimmed};
 
 // A range of a text: the place of its first byte and the place after its last.
-#[derive(Clone, Copy)]
+#[derive(Clone, Copy, Debug, PartialEq, Eq)]
 pub struct Range {
     pub start: usize,
     pub end: usize,
-}
-
-// A place that was searched for, if there is one.
-#[derive(Clone, Copy)]
-pub enum Found {
-    At(usize),
-    Nothing,
-}
-
-// The sets of bytes of which runs are sought.
-#[derive(Clone, Copy)]
-pub enum ByteSet {
-    Trimmed,
-    Space,
-    Blank,
-    Word,
-    // all but LF and CR
-    InLine,
 }
 
 // The byte at a place, and 0 past the end, which no rule asks for.
@@ -39,46 +24,26 @@ pub fn byte_at(text: &[u8], at: usize) -> u8
     if at < text.len() { text[at] } else { 0 }
 }
 
-fn is_in(set: ByteSet, b: u8) -> bool
-    ensures { result ≡ holds set b }
-{
-    match set {
-        ByteSet::Trimmed => class::is_trimmed(b),
-        ByteSet::Space => class::is_space(b),
-        ByteSet::Blank => class::is_blank(b),
-        ByteSet::Word => class::is_word(b),
-        ByteSet::InLine => !class::is_eol(b),
-    }
-}
-
 // The end of the run of a set's bytes that starts at a place.
-pub fn run_end(text: &[u8], from: usize, set: ByteSet) -> usize
+pub fn run_end<S: ByteSet>(text: &[u8], from: usize) -> usize
     requires { from ≤ length text.now }
-    ensures value { result ≡ from + leading (holds set) (drop from text.now) }
+    ensures value { result ≡ from + leading S.holds (drop from text.now) }
     ensures lower_bound { (from ≤ result) × (result ≤ length text.now) }
 {
-    let mut i = from;
-    while i < text.len() {
-        if !is_in(set, text[i]) {
-            return i;
-        }
-        i += 1;
+    match text[from..].iter().position(|b| !S::has(*b)) {
+        Some(n) => from + n,
+        None => text.len(),
     }
-    i
 }
 
 // The end of a text without the bytes that trimming takes off its end.
 fn trimmed_end(text: &[u8]) -> usize
     ensures { result ≡ length text.now - leading is_trimmed (reverse text.now) }
 {
-    let mut i = text.len();
-    while 0 < i {
-        if !class::is_trimmed(text[i - 1]) {
-            return i;
-        }
-        i -= 1;
+    match text.iter().rposition(|b| !class::is_trimmed(*b)) {
+        Some(i) => i + 1,
+        None => 0,
     }
-    i
 }
 
 // The range that trimming leaves; of a blank text the empty one at its start.
@@ -86,7 +51,7 @@ pub fn trim_range(text: &[u8]) -> Range
     ensures value { result ≡ trimmed 0 text.now }
     ensures start_le_end { (result.start ≤ result.end) × (result.end ≤ length text.now) }
 {
-    let start = run_end(text, 0, ByteSet::Trimmed);
+    let start = run_end::<Trimmed>(text, 0);
     if start == text.len() {
         return Range { start: 0, end: 0 };
     }
@@ -99,9 +64,7 @@ pub fn trim(text: &[u8]) -> &[u8]
     ensures { record { at = result.ref_ptr; bytes = result.now } ≡ trim_call text.entry.ref_ptr text.now }
 {
     let range = trim_range(text);
-    let start = range.start;
-    let end = range.end;
-    &text[start..end]
+    &text[range.start..range.end]
 }
 
 // The range that trimming leaves of a part of a text, in places of the text.
@@ -175,31 +138,12 @@ fn low_eights(text: &[u8]) -> usize
 }
 
 // The first byte above 127.
-pub fn first_high(text: &[u8]) -> Found
-    ensures { found_at result ≡ first_high 0 text.now }
+pub fn first_high(text: &[u8]) -> Option<usize>
+    ensures { result ≡ first_high 0 text.now }
 {
-    let mut i = low_eights(text);
-    while i < text.len() {
-        if text[i] > 127 {
-            return Found::At(i);
-        }
-        i += 1;
+    let low = low_eights(text);
+    match text[low..].iter().position(|b| *b > 127) {
+        Some(n) => Some(low + n),
+        None => None,
     }
-    Found::Nothing
-}
-
-// Copies a part of a text to a place of a buffer; the place behind it is returned.
-pub fn copy_part(text: &[u8], start: usize, end: usize, buffer: &mut [u8], at: usize) -> usize
-    requires { (start ≤ end) × ((end ≤ length text.now) × (at + (end - start) ≤ length buffer.old)) }
-    ensures value { result ≡ at + (end - start) }
-    ensures buffer_after { take result buffer.new ≡ take at buffer.old ++ take (end - start) (drop start text.now) }
-{
-    let mut i = start;
-    let mut k = at;
-    while i < end {
-        buffer[k] = text[i];
-        i += 1;
-        k += 1;
-    }
-    k
 }

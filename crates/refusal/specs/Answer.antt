@@ -1,6 +1,5 @@
 -- What a call answers: what it gives, or one refusal of the table with its place.
-use Rattle.std.specs.Prelude.{ℕ, cond, List, [], length, ltb}
-use Rattle.std.specs.Prelude.{Option, Some, None}
+use Rattle.std.specs.Prelude.{ℕ, cond, List, [], length, ltb, Option, Some, None, Result, Ok, Err}
 use Rattle.ascii.specs.Text.{first_high, padded}
 use Rattle.refusal.specs.declared.Refusal.{Refusal}
 use Rattle.refusal.specs.Table.{number_of}
@@ -13,6 +12,11 @@ pub data Answer (A : Type 0) : Type 0 where
 -- a refusal's number and place
 abbrev pub refused_by : {A : Type 0} → Refusal → Answer A
 refused_by r = refused (number_of r.reason) r.place
+
+-- the declared answer of a call: what it gives, or its refusal's number and place
+abbrev pub told : {A : Type 0} → Result A Refusal → Answer A
+told (Ok a) = given a
+told (Err r) = refused_by r
 
 -- a step, and the step after it: "Checked in this order"
 abbrev pub and_then : {A B : Type 0} → Answer A → (A → Answer B) → Answer B

@@ -1,13 +1,12 @@
 // The table of refusals of document 01: each reason with its number, and a refusal with its place.
 #![tactic(auto)]
 
-ghost use Rattle.std.specs.Prelude.{◌≡◌, ◌++◌, ◌-◌, ◌≤◌, length, take, replicate};
+ghost use Rattle.std.specs.Prelude.{◌≡◌};
 ghost use Rattle.refusal.specs.Table.{number_of};
-ghost use Rattle.refusal.specs.Verdict.{text_verdict};
+ghost use Rattle.refusal.specs.Verdict.{refusal_at, text_verdict};
 
-use ascii::Found;
-
-#[derive(Clone, Copy)]
+// Why a call refuses.
+#[derive(Clone, Copy, Debug, PartialEq, Eq)]
 pub enum Reason {
     // 1: the line or text has more than 16,384 bytes
     TooLong,
@@ -49,88 +48,65 @@ pub enum Reason {
     BadSpan,
 }
 
-#[derive(Clone, Copy)]
+// A refusal: its reason, and the place that the table gives it.
+#[derive(Clone, Copy, Debug, PartialEq, Eq)]
 pub struct Refusal {
     pub reason: Reason,
     pub place: usize,
 }
 
-// The number of a reason in the table.
-pub fn number(reason: Reason) -> u8
-    ensures { result ≡ number_of reason }
-{
-    match reason {
-        Reason::TooLong => 1,
-        Reason::HighByte => 2,
-        Reason::ShortBuffer => 3,
-        Reason::WrongBook => 4,
-        Reason::WrongLanguage => 5,
-        Reason::InvalidLine => 6,
-        Reason::NoOpening => 7,
-        Reason::UnclosedComment => 8,
-        Reason::NoDirective => 9,
-        Reason::NoClause => 10,
-        Reason::NoParenthesis => 11,
-        Reason::Unmatched => 12,
-        Reason::TooDeep => 13,
-        Reason::NoSlot => 14,
-        Reason::EmptyItem => 15,
-        Reason::UnclosedQuote => 16,
-        Reason::WrongClosing => 17,
-        Reason::UnclosedBracket => 18,
-        Reason::BadSpan => 19,
+impl Reason {
+    pub fn at(self, place: usize) -> Refusal
+        ensures { result ≡ refusal_at self place }
+    {
+        Refusal {
+            reason: self,
+            place,
+        }
     }
 }
 
-// What a check finds before a call goes on.
-#[derive(Clone, Copy)]
-pub enum Verdict {
-    Fine,
-    Bad(Refusal),
+// The number of a reason in the table.
+impl From<Reason> for u8 {
+    ghost from_gives = { λ why n. n ≡ number_of why };
+
+    fn from(reason: Reason) -> u8 {
+        match reason {
+            Reason::TooLong => 1,
+            Reason::HighByte => 2,
+            Reason::ShortBuffer => 3,
+            Reason::WrongBook => 4,
+            Reason::WrongLanguage => 5,
+            Reason::InvalidLine => 6,
+            Reason::NoOpening => 7,
+            Reason::UnclosedComment => 8,
+            Reason::NoDirective => 9,
+            Reason::NoClause => 10,
+            Reason::NoParenthesis => 11,
+            Reason::Unmatched => 12,
+            Reason::TooDeep => 13,
+            Reason::NoSlot => 14,
+            Reason::EmptyItem => 15,
+            Reason::UnclosedQuote => 16,
+            Reason::WrongClosing => 17,
+            Reason::UnclosedBracket => 18,
+            Reason::BadSpan => 19,
+        }
+    }
 }
 
 // The longest line or text.
 pub const MAX_LENGTH: usize = 16384;
 
 // Refusals 1 and 2: the length of a text, and its first byte above 127.
-pub fn check_text(text: &[u8]) -> Verdict
+pub fn check_text(text: &[u8]) -> Result<(), Refusal>
     ensures { result ≡ text_verdict text.now }
 {
     if MAX_LENGTH < text.len() {
-        return Verdict::Bad(Refusal {
-            reason: Reason::TooLong,
-            place: MAX_LENGTH,
-        });
+        return Err(Reason::TooLong.at(MAX_LENGTH));
     }
     match ascii::first_high(text) {
-        Found::Nothing => Verdict::Fine,
-        Found::At(place) => Verdict::Bad(Refusal {
-            reason: Reason::HighByte,
-            place,
-        }),
-    }
-}
-
-// Sets every slot from a place on to 0.
-pub fn clear_bytes(slots: &mut [u8], from: usize)
-    requires { from ≤ length slots.old }
-    ensures { slots.new ≡ take from slots.old ++ replicate (length slots.old - from) 0 }
-{
-    let mut i = from;
-    while i < slots.len() {
-        slots[i] = 0;
-        i += 1;
-    }
-}
-
-// The same for 16-bit slots.
-pub fn clear_words(slots: &mut [u16], from: usize)
-    requires { from ≤ length slots.old }
-    ensures { slots.new ≡ take from slots.old ++ replicate (length slots.old - from) 0 }
-{
-    let mut i = from;
-    while i < slots.len() {
-        slots[i] = 0;
-        i += 1;
+        None => Ok(()),
+        Some(place) => Err(Reason::HighByte.at(place)),
     }
 }
