@@ -1,31 +1,25 @@
 -- Steps of a cursor: "a place in the text that moves forward and hands itself back, or a refusal".
-use Rattle.std.specs.Prelude.{ℕ, ◌+◌, ◌≤◌, Bool, false, cond, List, length, drop, eqb}
+use Rattle.std.specs.Prelude.{ℕ, ◌+◌, ◌≤◌, Bool, false, cond, List, length, drop, eqb, Result, Ok, Err}
 use Rattle.ascii.specs.Ascii.{is_word, exactly}
 use Rattle.ascii.specs.Text.{bytes, leading, begins}
-use Rattle.refusal.specs.Answer.{Answer, given, refused, refused_by, and_then}
-use Rattle.lexer.specs.declared.Step.{Step}
-use Rattle.lexer.specs.declared.Step.TheVariants.{At, Refused}
-use Rattle.lexer.specs.declared.Skipped.{Skipped}
-use Rattle.lexer.specs.declared.Skipped.TheVariants.{Past, OpenAt}
+use Rattle.refusal.specs.declared.Refusal.{Refusal}
+use Rattle.refusal.specs.Answer.{Answer, given, refused, refused_by, told, and_then}
+use Rattle.lexer.specs.declared.Cursor.{Cursor}
 use Rattle.lexer.specs.Trivia.{skip}
 
--- the declared answer of a step
-abbrev pub step_of : Step → Answer ℕ
-step_of (At c) = given c.at
-step_of (Refused r) = refused_by r
+-- the declared answer of a step: the place that it comes to
+abbrev pub step_of : Result Cursor Refusal → Answer ℕ
+step_of (Ok c) = given c.at
+step_of (Err r) = refused_by r
 
 -- trivia, perhaps none: row 8, "comment unclosed in trivia"
-abbrev pub passed : Skipped → Answer ℕ
-passed (Past p) = given p
-passed (OpenAt p) = refused 8 p
-
 abbrev pub trivia_step : Bool → List ℕ → ℕ → Answer ℕ
-trivia_step f text at = passed (skip f text at)
+trivia_step f text at = told (skip f text at)
 
 -- trivia of at least one byte (`skip_space1_and_comments`): row 7 where there is none, "where the failing step began"
-abbrev pub passed_some : ℕ → Skipped → Answer ℕ
-passed_some at (Past p) = cond (eqb p at) (refused 7 at) (given p)
-passed_some at (OpenAt p) = refused 8 p
+abbrev pub passed_some : ℕ → Result ℕ Refusal → Answer ℕ
+passed_some at (Ok p) = cond (eqb p at) (refused 7 at) (given p)
+passed_some at (Err r) = refused_by r
 
 abbrev pub some_trivia_step : Bool → List ℕ → ℕ → Answer ℕ
 some_trivia_step f text at = passed_some at (skip f text at)
@@ -51,6 +45,6 @@ abbrev pub word_end : List ℕ → ℕ → ℕ
 word_end text at = at + leading is_word (drop at text)
 
 -- a step goes forward, and stays within n bytes
-abbrev pub Forward : ℕ → ℕ → Step → Type 0
-Forward at n (At c) = (at ≤ c.at) × (c.at ≤ n)
-Forward at n (Refused r) = Unit {0}
+abbrev pub Forward : ℕ → ℕ → Result Cursor Refusal → Type 0
+Forward at n (Ok c) = (at ≤ c.at) × (c.at ≤ n)
+Forward at n (Err r) = Unit {0}
