@@ -2,18 +2,17 @@
 use Prim.Native.Nat.{ℕ, zero, suc, ◌+◌, ◌-◌}
 use Rattle.std.specs.Prelude.{Bool, true, false, ◌&&◌, ◌||◌, take, drop, eqb}
 use Rattle.std.proofs.Math.Bool.{cond}
-use Rattle.std.specs.Prelude.{Option, Some, None}
+use Rattle.std.specs.Prelude.{Option, Some, None, Ok, Err}
 use mathlib.Core.List.{List, [], ◌∷◌, ◌++◌}
 use Rattle.std.proofs.Math.ListN.{length}
 use Rattle.ascii.specs.Ascii.{is_word, is_space, fold}
 use Rattle.ascii.specs.Text.{leading, same_by}
 use Rattle.refusal.specs.Answer.{Answer, given, refused, refused_by}
-use Rattle.lexer.specs.declared.Skipped.TheVariants.{Past, OpenAt}
 use Rattle.lexer.specs.Trivia.{skip}
 use Rattle.rulebook.specs.Book.{Entry, Book}
 use Rattle.rulebook.specs.Lookup.{comparison, entry_from}
 use Rattle.directive.specs.declared.DirectiveName.{DirectiveName}
-use Rattle.directive.specs.declared.NameAnswer.{NameAnswer}
+use Rattle.directive.specs.declared.Named.{Named}
 
 -- a name without its blanks
 unfoldable pub compact : List ℕ → List ℕ
@@ -64,11 +63,7 @@ may_grow book name =
     is_head (same_by (comparison book)) name book.directives || (book.optional_blanks && is_head same_compact name book.directives)
 
 -- the last candidate that was a name: its entry and its end
-pub record Candidate : Type 0 where
-  pub entry : ℕ
-  pub end : ℕ
-
-abbrev pub latest : Option ℕ → ℕ → Option Candidate → Option Candidate
+abbrev pub latest : Option ℕ → ℕ → Option Named → Option Named
 latest None end before = before
 latest (Some i) end before = Some (record { entry = i; end = end })
 
@@ -78,7 +73,7 @@ extended [] word = word
 extended (x ∷ xs) word = x ∷ xs ++ (32 ∷ word)
 
 -- row 9, "no directive name, at its search's start"
-abbrev pub or_missing : ℕ → Option Candidate → Answer Candidate
+abbrev pub or_missing : ℕ → Option Named → Answer Named
 or_missing search None = refused 9 search
 or_missing search (Some f) = given f
 
@@ -94,7 +89,7 @@ module _ (book : Book) (text : List ℕ) (search : ℕ) where
   -- words from place at on, where xs is what is left of the text there, once k bytes are passed over; the candidate is the words before, and found
   -- the last that was a name. The trivia after each word is skipped before anything is decided (row 8), and a word is added only if one stands there and
   -- the candidate is a name or a beginning of one.
-  unfoldable pub name_from : List ℕ → Option Candidate → ℕ → ℕ → List ℕ → Answer Candidate
+  unfoldable pub name_from : List ℕ → Option Named → ℕ → ℕ → List ℕ → Answer Named
   unfolding leading entry_of may_grow skip
   name_from candidate found zero at [] = or_missing search found
   name_from candidate found (suc k) at [] = or_missing search found
@@ -105,12 +100,12 @@ module _ (book : Book) (text : List ℕ) (search : ℕ) where
       let now = latest (entry_of book grown) end found in
       cond (is_word x)
       (elim (skip book.ignores_case text end) [
-        | OpenAt p ↦ refused 8 p
-        | Past p ↦ cond (starts_word (drop p text) && may_grow book grown) (name_from grown now (p - suc at) (suc at) xs) (or_missing search now)
+        | Err r ↦ refused_by r
+        | Ok p ↦ cond (starts_word (drop p text) && may_grow book grown) (name_from grown now (p - suc at) (suc at) xs) (or_missing search now)
       ])
       (or_missing search found)
 
-abbrev pub named : ℕ → Answer Candidate → Answer DirectiveName
+abbrev pub named : ℕ → Answer Named → Answer DirectiveName
 named start (given f) = given (record { entry = f.entry; start = start; end = f.end })
 named start (refused n p) = refused n p
 
@@ -119,10 +114,6 @@ unfoldable pub name_at : Book → List ℕ → ℕ → Answer DirectiveName
 unfolding name_from skip
 name_at book text at =
     elim (skip book.ignores_case text at) [
-      | OpenAt p ↦ refused 8 p
-      | Past p ↦ named p (name_from book text at [] None zero p (drop p text))
+      | Err r ↦ refused_by r
+      | Ok p ↦ named p (name_from book text at [] None zero p (drop p text))
     ]
-
-abbrev pub name_gives : NameAnswer → Answer DirectiveName
-name_gives (NameAnswer.Found n) = given n
-name_gives (NameAnswer.Refused r) = refused_by r

@@ -1,33 +1,61 @@
-// The candidate: the words of a name so far, with one blank between them, kept in a buffer of 512 bytes.
-// A longer one is no name and begins none: a name's length is one byte, and at least every second byte of a candidate is of a word.
-ghost use Rattle.std.specs.Prelude.{◌≡◌, ◌++◌, ◌+◌, ◌-◌, ◌≤◌, length, take, drop};
+// The candidate: the words of a name so far, with one blank between them.
+ghost use Rattle.std.specs.Prelude.{◌≡◌, List, [], ◌++◌, ◌≤◌, ℕ, length, take};
 ghost use Rattle.directive.specs.Name.{extended};
-ghost use Rattle.directive.specs.Steps.{fitting, kept_in};
+ghost use Rattle.directive.specs.Steps.{fitting, kept_if};
 
-// Puts a word behind the first bytes of a buffer; the length of both, or 513 if they do not fit.
-fn put_behind(buffer: &mut [u8], from: usize, text: &[u8], start: usize, end: usize) -> usize
-    requires buffer_len { (length buffer.old ≡ 512) × (from ≤ 512) }
-    requires start_le_end { (start ≤ end) × (end ≤ length text.now) }
-    ensures { kept_in result buffer.new ≡ fitting (take from buffer.old ++ take (end - start) (drop start text.now)) }
-{
-    if end - start > 512 - from {
-        return 513;
-    }
-    ascii::copy_part(text, start, end, buffer, from)
+use std::marker::Model;
+
+// The most bytes that a candidate has. A longer one is no name and begins none: a name's length is one byte, and at least every second byte of a candidate
+// is of a word.
+const MAX_LENGTH: usize = 512;
+
+// A buffer with its length: no heap.
+pub struct Candidate {
+    bytes: [u8; 512],
+    len: usize,
 }
 
-// The candidate with a word more, behind a blank if it is not the first; its length, or 513 if the candidate does not fit.
-pub fn push_word(buffer: &mut [u8], len: usize, text: &[u8], start: usize, end: usize) -> usize
-    requires buffer_len { (length buffer.old ≡ 512) × (len ≤ 512) }
-    requires start_le_end { (start ≤ end) × (end ≤ length text.now) }
-    ensures { kept_in result buffer.new ≡ fitting (extended (take len buffer.old) (take (end - start) (drop start text.now))) }
-{
-    if len == 0 {
-        return put_behind(buffer, 0, text, start, end);
+impl Model for Candidate {
+    ghost Value = { List ℕ };
+
+    ghost view = { λ c. take c.len c.bytes };
+
+    ghost invariant = { λ c. c.len ≤ 512 };
+}
+
+impl Candidate {
+    pub fn new() -> Candidate
+        ensures { result ≡ [] }
+    {
+        Candidate {
+            bytes: [0; 512],
+            len: 0,
+        }
     }
-    if len == 512 {
-        return 513;
+
+    pub fn as_slice(&self) -> &[u8]
+        ensures { result.now ≡ self.now }
+    {
+        &self.bytes[..self.len]
     }
-    buffer[len] = 32;
-    put_behind(buffer, len + 1, text, start, end)
+
+    // Whether some bytes more fit; if so they are added.
+    fn push(&mut self, more: &[u8]) -> bool
+        ensures { kept_if result self.new ≡ fitting (self.old ++ more.now) }
+    {
+        if more.len() > MAX_LENGTH - self.len {
+            return false;
+        }
+        let end = self.len + more.len();
+        self.bytes[self.len..end].copy_from_slice(more);
+        self.len = end;
+        true
+    }
+
+    // Whether one word more fits, behind a blank if it is not the first. If it doesn't, the candidate is not to be read.
+    pub fn push_word(&mut self, word: &[u8]) -> bool
+        ensures { kept_if result self.new ≡ fitting (extended self.old word.now) }
+    {
+        (self.len == 0 || self.push(b" ")) && self.push(word)
+    }
 }
