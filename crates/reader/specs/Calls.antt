@@ -1,13 +1,12 @@
 -- What the whole-line call gives: the reading, and every lent slot as the call leaves it.
 use Rattle.std.specs.Prelude.{ℕ, List, length}
-use Rattle.refusal.specs.Answer.{Answer, given, refused_by, and_then, slots}
+use Rattle.refusal.specs.Answer.{Answer, given, and_then, slots}
 use Rattle.lexer.specs.declared.Language.{Language}
 use Rattle.lexer.specs.declared.Prefix.{Prefix}
 use Rattle.source.specs.Joining.{joined_text, joined_map}
 use Rattle.clause.specs.declared.ClauseRecord.{ClauseRecord}
 use Rattle.clause.specs.Clause.{zero_record}
 use Rattle.reader.specs.declared.Reading.{Reading}
-use Rattle.reader.specs.declared.LineAnswer.{LineAnswer}
 use Rattle.reader.specs.Line.{Parsed, line_answer}
 
 -- "directive entry, name's joined start and end, number of records, joined place of the unread rest"
@@ -42,7 +41,3 @@ line_within l p book line text_slots map_slots room record_slots =
 -- into all of them
 abbrev pub line_call : Language → Prefix → List ℕ → List ℕ → ℕ → ℕ → ℕ → LineCall
 line_call l p book line text_slots map_slots record_slots = line_within l p book line text_slots map_slots record_slots record_slots
-
-abbrev pub line_gives : LineAnswer → Answer Reading
-line_gives (LineAnswer.Read r) = given r
-line_gives (LineAnswer.Refused r) = refused_by r

@@ -1,32 +1,31 @@
 -- The whole line by steps: the checks before it is joined, what stands once the name is read, and what is left once the clauses are.
-use Rattle.std.specs.Prelude.{ℕ, ◌+◌, ◌≤◌, Bool, cond, not, ◌≡◌, List, length, take}
+use Rattle.std.specs.Prelude.{ℕ, ◌+◌, ◌≤◌, ◌<◌, Bool, cond, not, ◌≡◌, List, length, take, Result, Ok, Err}
 use Rattle.ascii.specs.Text.{first_high}
+use Rattle.refusal.specs.declared.Reason.TheVariants.{ShortBuffer, WrongLanguage, InvalidLine}
 use Rattle.refusal.specs.declared.Refusal.{Refusal}
-use Rattle.refusal.specs.declared.Verdict.{Verdict}
-use Rattle.refusal.specs.Answer.{Answer, given, refused, and_then, unless_fault, admitted, slots}
-use Rattle.refusal.specs.Verdict.{or_refused}
+use Rattle.refusal.specs.Answer.{Answer, given, refused_by, and_then}
+use Rattle.refusal.specs.Verdict.{Verdict, fine, refusal_at, fault_by, and_check, text_verdict}
 use Rattle.lexer.specs.declared.Language.{Language}
 use Rattle.lexer.specs.declared.Language.TheVariants.{C, FortranFree, FortranFixed}
 use Rattle.lexer.specs.declared.Prefix.{Prefix}
 use Rattle.validation.specs.Validation.{fault}
 use Rattle.source.specs.Joining.{joined_text, joined_map}
 use Rattle.source.specs.Calls.{is_short}
-use Rattle.clause.specs.declared.SequenceAnswer.{SequenceAnswer}
+use Rattle.clause.specs.declared.ClauseRecord.{ClauseRecord}
+use Rattle.clause.specs.declared.SequenceEnd.{SequenceEnd}
 use Rattle.clause.specs.Sequence.{Sequence}
-use Rattle.clause.specs.Steps.{Started, refused_start, read_on}
+use Rattle.clause.specs.Steps.{Started, read_on}
 use Rattle.directive.specs.declared.DirectiveName.{DirectiveName}
 use Rattle.reader.specs.declared.Head.{Head}
-use Rattle.reader.specs.declared.LineAnswer.{LineAnswer}
+use Rattle.reader.specs.declared.Reading.{Reading}
 use Rattle.reader.specs.Line.{Parsed, line_answer}
+use Rattle.reader.specs.Calls.{LineCall}
 
--- the checks found nothing, or a refusal
-abbrev pub check_of : Verdict → Answer (Unit {0})
-check_of v = or_refused v (given tt)
-
--- rows 1 to 3, then 4 as the book check gives it
-unfoldable pub call_check : Answer (Unit {0}) → List ℕ → ℕ → ℕ → Answer (Unit {0})
-unfolding first_high
-call_check book line text_slots map_slots = admitted line (cond (is_short line text_slots map_slots) (refused 3 0) book)
+-- rows 1 to 3
+unfoldable pub call_verdict : List ℕ → ℕ → ℕ → Verdict
+unfolding text_verdict
+call_verdict line text_slots map_slots =
+    and_check (text_verdict line) (cond (is_short line text_slots map_slots) (Err (refusal_at ShortBuffer 0)) fine)
 
 -- "Language C needs bit 0 clear, the Fortrans need it set."
 abbrev pub suited : Language → Bool → Bool
@@ -35,42 +34,40 @@ suited FortranFree ignores_case = ignores_case
 suited FortranFixed ignores_case = ignores_case
 
 -- rows 5 and 6
-unfoldable pub line_check : Language → Prefix → Bool → List ℕ → Answer (Unit {0})
+unfoldable pub line_verdict : Language → Prefix → Bool → List ℕ → Verdict
 unfolding fault
-line_check l p ignores_case line = cond (suited l ignores_case) (unless_fault 6 (fault l p line) (given tt)) (refused 5 0)
-
--- a refusal before the clauses: nothing stands
-abbrev pub refused_head : Refusal → Head
-refused_head why = record { name = record { entry = 0; start = 0; end = 0 }; length = 0; mapped = 0; start = refused_start 0 why }
+line_verdict l p ignores_case line = cond (suited l ignores_case) (fault_by InvalidLine (fault l p line)) (Err (refusal_at WrongLanguage 0))
 
 -- the clauses that are read behind a name
 abbrev pub behind : DirectiveName → Answer Sequence → Answer Parsed
 behind name x = and_then x (λ s. given (record { name = name; sequence = s }))
 
--- where something is given the whole of n bytes stands, with its map
-abbrev pub Whole : ℕ → Head → Answer Parsed → Type 0
-Whole n h (given a) = (h.length ≡ n) × (h.mapped ≡ n + 1)
-Whole n h (refused k p) = Unit {0}
+-- a head of a text of a book, from whose start on the answer is read
+pub record Heading (book text : List ℕ) (room : ℕ) (answer : Answer Parsed) (h : Head) : Type 0 where
+  pub started : Started book text room h.start
+  pub reads : behind h.name (read_on book text h.start) ≡ answer
 
--- the head of a joined text: from its start on, with so many slots, the answer is read
-pub record Heads (book text : List ℕ) (room : ℕ) (answer : Answer Parsed) (h : Head) : Type 0 where
-  pub within : (h.length ≤ length text) × (h.mapped ≤ length text + 1)
-  pub started : Started book (take h.length text) room h.start
-  pub reads : behind h.name (read_on book (take h.length text) h.start) ≡ answer
-  pub whole : Whole (length text) h answer
+-- the head of a joined text, with so many slots: all of it stands
+abbrev pub Heads : List ℕ → List ℕ → ℕ → Answer Parsed → Result Head Refusal → Type 0
+Heads book text room answer (Ok h) = (h.length ≡ length text) × Heading book text room answer h
+Heads book text room answer (Err r) = answer ≡ refused_by r
 
--- the head of a line, with text and map as they are then: what stands of them is what a reading leaves
-pub record HeadGives (l : Language) (p : Prefix) (book line : List ℕ) (room : ℕ) (text map : List ℕ) (h : Head) : Type 0 where
-  pub within : (h.length ≤ length text) × (h.mapped ≤ length map)
-  pub started : Started book (take h.length text) room h.start
-  pub reads : behind h.name (read_on book (take h.length text) h.start) ≡ line_answer l p book line (length text) (length map) room
-  pub texts : slots 0 (length text) (λ _. take h.length text) (line_answer l p book line (length text) (length map) room)
-      ≡ slots 0 (length text) (λ _. joined_text l line) (line_answer l p book line (length text) (length map) room)
-  pub maps : slots 0 (length map) (λ _. take h.mapped map) (line_answer l p book line (length text) (length map) room)
-      ≡ slots 0 (length map) (λ _. joined_map l line) (line_answer l p book line (length text) (length map) room)
+-- the head of a line, with text and map as they are then: the joined text and its map stand in front
+pub record HeadLeaves (l : Language) (p : Prefix) (book line : List ℕ) (room : ℕ) (text map : List ℕ) (h : Head) : Type 0 where
+  pub within : (h.length ≤ length text) × (h.length < length map)
+  pub texts : take h.length text ≡ joined_text l line
+  pub maps : take (h.length + 1) map ≡ joined_map l line
+  pub heads : Heading book (take h.length text) room (line_answer l p book line (length text) (length map) room) h
 
--- the answer behind a name, once the clauses are read
-abbrev pub answered : DirectiveName → SequenceAnswer → LineAnswer
-answered n (SequenceAnswer.Read s) =
-    LineAnswer.Read (record { entry = n.entry; name_start = n.start; name_end = n.end; count = s.count; rest = s.rest })
-answered n (SequenceAnswer.Refused r) = LineAnswer.Refused r
+abbrev pub HeadGives : Language → Prefix → List ℕ → List ℕ → ℕ → List ℕ → List ℕ → Result Head Refusal → Type 0
+HeadGives l p book line room text map (Ok h) = HeadLeaves l p book line room text map h
+HeadGives l p book line room text map (Err r) = line_answer l p book line (length text) (length map) room ≡ refused_by r
+
+-- the reading behind a name, once the clauses are read
+abbrev pub answered : DirectiveName → SequenceEnd → Reading
+answered n s = record { entry = n.entry; name_start = n.start; name_end = n.end; count = s.count; rest = s.rest }
+
+-- what is left of a call where it is over: all that it gives, or its refusal alone
+abbrev pub Leaves : LineCall → List ℕ → List ℕ → List ClauseRecord → Result Reading Refusal → Type 0
+Leaves call text map records (Ok r) = record { answer = given r; text = text; map = map; records = records } ≡ call
+Leaves call text map records (Err r) = call.answer ≡ refused_by r

@@ -1,47 +1,58 @@
-// The thin writer of a line: all that decides is in `heading` and in the clauses.
-ghost use Rattle.std.specs.Prelude.{◌≡◌, ◌≤◌, min, length};
-ghost use Rattle.reader.specs.Calls.{LineCall, line_gives, line_within};
+// The whole line into lent slots: all that decides is in `checks`, `heading` and the clauses.
+ghost use Rattle.std.specs.Prelude.{◌≡◌, ◌≤◌, length};
+ghost use Rattle.refusal.specs.Answer.{told};
+ghost use Rattle.reader.specs.Calls.{LineCall, line_within};
+ghost use Rattle.reader.specs.Steps.{Leaves};
 
-use crate::{Line512, LineAnswer, heading};
+use crate::{Reading, checks, heading};
 use clause::{ClauseRecord, records};
-use lexer::{Language, Prefix};
+use lexer::Dialect;
+use refusal::Refusal;
 
-// The whole line into so many of the record slots; every other slot is zeroed.
-pub fn read_into(
-    language: Language,
-    prefix: Prefix,
+// The line as far as it is read; on a refusal the slots hold what was written till then.
+fn read_up_to(
+    dialect: Dialect,
     book: &[u8],
     line: &[u8],
     text: &mut [u8],
     map: &mut [u16],
     slots: usize,
     records: &mut [ClauseRecord],
-) -> LineAnswer
+) -> Result<Reading, Refusal>
     requires { slots ≤ length records.old }
-    ensures { record { answer = line_gives result; text = text.new; map = map.new; records = records.new }
-        ≡ line_within language prefix book.now line.now (length text.old) (length map.old) slots (length records.old) }
+    ensures { Leaves (line_within dialect.language dialect.prefix book.now line.now (length text.old) (length map.old) slots (length records.old))
+        text.new map.new records.new result }
 {
+    checks::check_call(line, text.len(), map.len())?;
     let mut index = [0u32; 1024];
-    let head = heading::read_head(language, prefix, book, &mut index, line, text, map, slots);
-    let joined = heading::joined(text, head);
-    let start = heading::start_of(head);
-    let clauses = records::read_from(book, &index, joined, start, records);
-    heading::settle(head, clauses, text, map)
+    let book = rulebook::checked(book, &mut index)?;
+    let head = heading::head_under(dialect, &book, line, text, map, slots)?;
+    let joined = &text[..head.length];
+    let end = records::read_from(&book, joined, head.start, records)?;
+    text[head.length..].fill(0);
+    map[head.length + 1..].fill(0);
+    Ok(heading::reading(head.name, end))
 }
 
-// No more slots than an array of 512 has.
-pub fn at_most_512(slots: usize) -> usize
-    ensures { result ≡ min slots 512 }
+// The whole line into so many of the record slots; every other slot is zeroed, and after a refusal all are.
+pub fn read_into(
+    dialect: Dialect,
+    book: &[u8],
+    line: &[u8],
+    text: &mut [u8],
+    map: &mut [u16],
+    slots: usize,
+    records: &mut [ClauseRecord],
+) -> Result<Reading, Refusal>
+    requires { slots ≤ length records.old }
+    ensures { record { answer = told result; text = text.new; map = map.new; records = records.new }
+        ≡ line_within dialect.language dialect.prefix book.now line.now (length text.old) (length map.old) slots (length records.old) }
 {
-    if slots < 512 { slots } else { 512 }
-}
-
-// An answer with its record slots.
-pub fn paired(answer: LineAnswer, slots: [ClauseRecord; 512]) -> Line512
-    ensures { result ≡ record { answer = answer; records = slots } }
-{
-    Line512 {
-        answer,
-        records: slots,
+    let result = read_up_to(dialect, book, line, text, map, slots, records);
+    if result.is_err() {
+        text.fill(0);
+        map.fill(0);
+        records.fill(records::zero_record());
     }
+    result
 }
