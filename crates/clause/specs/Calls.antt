@@ -1,12 +1,15 @@
 -- What the clause sequence call gives: the number of records and the rest, and every record slot as the call leaves it.
-use Rattle.std.specs.Prelude.{ℕ, List, length}
+use Rattle.std.specs.Prelude.{ℕ, ◌≡◌, List, length, Some, Result, Ok, Err}
 use Rattle.ascii.specs.Text.{first_high}
+use Rattle.refusal.specs.declared.Reason.TheVariants.{WrongBook}
+use Rattle.refusal.specs.declared.Refusal.{Refusal}
 use Rattle.refusal.specs.Answer.{Answer, given, refused_by, and_then, unless_fault, admitted, slots}
+use Rattle.refusal.specs.Verdict.{refusal_at, text_verdict, fine}
 use Rattle.rulebook.specs.Book.{book_of}
 use Rattle.rulebook.specs.Check.{book_fault}
+use Rattle.rulebook.specs.declared.CheckedBook.{CheckedBook}
 use Rattle.clause.specs.declared.ClauseRecord.{ClauseRecord}
 use Rattle.clause.specs.declared.SequenceEnd.{SequenceEnd}
-use Rattle.clause.specs.declared.SequenceAnswer.{SequenceAnswer}
 use Rattle.clause.specs.Clause.{zero_record}
 use Rattle.clause.specs.Sequence.{Sequence, sequence_at}
 
@@ -24,6 +27,12 @@ sequence_call book text size =
     let answer = admitted text (unless_fault 4 (book_fault book) (sequence_at (book_of book) text size 0)) in
     record { answer = and_then answer (λ s. given (counted s)); records = slots zero_record size (λ s. s.clauses) answer }
 
-abbrev pub sequence_gives : SequenceAnswer → Answer SequenceEnd
-sequence_gives (SequenceAnswer.Read s) = given s
-sequence_gives (SequenceAnswer.Refused r) = refused_by r
+-- what the checks before a sequence leave: a text that is not too long, under its valid book, or the refusal of rows 1, 2 and 4
+abbrev pub Admits : List ℕ → List ℕ → Result CheckedBook Refusal → Type 0
+Admits book text (Ok b) = (b.bytes.now ≡ book) × (text_verdict text ≡ fine)
+Admits book text (Err r) = (a : Answer Sequence) → admitted text (unless_fault 4 (book_fault book) a) ≡ refused_by r
+
+-- a book as its check leaves it: valid, or refused by row 4
+abbrev pub Judged : List ℕ → Result CheckedBook Refusal → Type 0
+Judged book (Ok b) = b.bytes.now ≡ book
+Judged book (Err r) = (p : ℕ) × (book_fault book ≡ Some p) × (r ≡ refusal_at WrongBook p)

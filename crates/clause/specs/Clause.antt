@@ -1,29 +1,32 @@
 -- One clause: its word, its rule under the book, and its argument.
-use Rattle.std.specs.Prelude.{ℕ, suc, ◌+◌, ◌-◌, true, false, List, take, drop, eqb}
-use Rattle.std.proofs.Math.Bool.{cond}
-use Rattle.std.specs.Prelude.{Option}
+use Rattle.std.specs.Prelude.{ℕ, suc, ◌+◌, ◌-◌, ◌≤◌, ◌<◌, ◌≡◌, Bool, true, false, cond, List, length, take, drop, eqb, Option, Some, None, Result, Ok, Err}
 use Rattle.ascii.specs.Ascii.{is_word}
 use Rattle.ascii.specs.Text.{starts, leading, trimmed}
 use Rattle.ascii.specs.declared.Range.{Range}
+use Rattle.refusal.specs.declared.Reason.{Reason}
+use Rattle.refusal.specs.declared.Refusal.{Refusal}
+use Rattle.refusal.specs.Answer.{max_length}
+use Rattle.refusal.specs.Verdict.{refusal_at}
 use Rattle.code.specs.declared.CommentStyle.{CommentStyle}
 use Rattle.code.specs.declared.CommentStyle.TheVariants.{CLike, Fortran}
-use Rattle.code.specs.declared.Match.{Match}
-use Rattle.code.specs.declared.Match.TheVariants.{ClosedAt, Unmatched, DeepAt}
+use Rattle.code.specs.declared.NoMatch.{NoMatch}
+use Rattle.code.specs.Code.{scan_at}
 use Rattle.code.specs.Matching.{matching}
-use Rattle.lexer.specs.declared.Skipped.{Skipped}
-use Rattle.lexer.specs.declared.Skipped.TheVariants.{Past, OpenAt}
 use Rattle.lexer.specs.Trivia.{skip}
 use Rattle.bookform.specs.declared.ClauseRule.{ClauseRule}
 use Rattle.bookform.specs.declared.ClauseRule.TheVariants.{Bare, Parenthesized, Flexible, Unsupported}
 use Rattle.rulebook.specs.Book.{Book}
 use Rattle.rulebook.specs.Lookup.{comparison, entry_from, index_or, rule_at, rule_or}
 use Rattle.clause.specs.declared.ClauseRecord.{ClauseRecord}
+use Rattle.clause.specs.declared.ClauseRead.{ClauseRead}
+use Rattle.clause.specs.declared.ClauseError.{ClauseError}
 
--- one clause read, with the place after it; failed with a number and place, which the default rule judges; or too deep, "under every default rule"
-pub data Read : Type 0 where
-  clause : ClauseRecord → ℕ → Read
-  failed : ℕ → ℕ → Read
-  deep : ℕ → Read
+-- one clause read, with the place after it; failed with a refusal, which the default rule judges; or too deep, "under every default rule"
+abbrev pub Read : Type 0
+Read = Result ClauseRead ClauseError
+
+abbrev pub failed : Reason → ℕ → Read
+failed why p = Err (ClauseError.Failed (refusal_at why p))
 
 -- "A zeroed record is bare with every number 0."
 abbrev pub zero_record : ClauseRecord
@@ -38,39 +41,46 @@ zero_record = record {
   trailing = false;
 }
 
-module _ (book : Book) (text : List ℕ) where
-  -- the comments that matching passes over: "bit 0 ignore case and use Fortran trivia"
-  abbrev pub style : CommentStyle
-  style = cond book.ignores_case Fortran CLike
+-- a word's record: alone, "content start and end (0 0 if bare)", or with the content of its argument
+abbrev pub word_record : ℕ → ℕ → ℕ → Option Range → ClauseRecord
+word_record start end i None =
+    record { name_start = start; name_end = end; entry = i; parenthesized = false; content_start = 0; content_end = 0; preceded = false; trailing = false }
+word_record start end i (Some content) =
+    record { name_start = start; name_end = end; entry = i; parenthesized = true; content_start = content.start; content_end = content.end; preceded = false; trailing = false }
 
-  -- a word alone: "content start and end (0 0 if bare)"
-  abbrev pub bare_clause : ℕ → ℕ → ℕ → Read
-  bare_clause start end i =
-      clause (record { name_start = start; name_end = end; entry = i; parenthesized = false; content_start = 0; content_end = 0; preceded = false; trailing = false }) end
+-- a word alone
+abbrev pub bare_clause : ℕ → ℕ → ℕ → Read
+bare_clause start end i = Ok (record { clause = word_record start end i None; end = end })
 
-  abbrev pub paren_clause : ℕ → ℕ → ℕ → Range → ℕ → Read
-  paren_clause start end i content after =
-      clause (record { name_start = start; name_end = end; entry = i; parenthesized = true; content_start = content.start; content_end = content.end; preceded = false; trailing = false }) after
+abbrev pub paren_clause : ℕ → ℕ → ℕ → Range → ℕ → Read
+paren_clause start end i content after = Ok (record { clause = word_record start end i (Some content); end = after })
 
+-- the comments that matching passes over: "bit 0 ignore case and use Fortran trivia"
+abbrev pub style : Bool → CommentStyle
+style fortran = cond fortran Fortran CLike
+
+-- of a book its bit 0 alone tells how an argument is read
+module _ (fortran : Bool) (text : List ℕ) where
   -- the parenthesis that opens at p: "Content is the trimmed range between the parentheses; blank content starts and ends just after `(`".
   -- Row 12, "`(` finds no match", at it; row 13 at the 257th bracket
-  abbrev pub closing : ℕ → ℕ → ℕ → ℕ → Match → Read
-  closing start end i p (ClosedAt q) = paren_clause start end i (trimmed (suc p) (take (q - suc p) (drop (suc p) text))) (suc q)
-  closing start end i p Unmatched = failed 12 p
-  closing start end i p (DeepAt q) = deep q
+  abbrev pub closing : ℕ → ℕ → ℕ → ℕ → Result ℕ NoMatch → Read
+  closing start end i p (Ok q) = paren_clause start end i (trimmed (suc p) (take (q - suc p) (drop (suc p) text))) (suc q)
+  closing start end i p (Err NoMatch.Unmatched) = failed Reason.Unmatched p
+  closing start end i p (Err (NoMatch.DeepAt q)) = Err (ClauseError.Deep q)
 
   -- by the rule, from where the trivia after the name ended. Row 10, "rule Unsupported (after the word)"; row 11, "Parenthesized without `(`";
   -- row 8 inside a clause
-  abbrev pub argument : ℕ → ℕ → ℕ → ClauseRule → Skipped → Read
+  abbrev pub argument : ℕ → ℕ → ℕ → ClauseRule → Result ℕ Refusal → Read
   argument start end i Bare s = bare_clause start end i
-  argument start end i Parenthesized (Past p) =
-      cond (starts 40 (drop p text)) (closing start end i p (matching style (suc p) (drop (suc p) text))) (failed 11 p)
-  argument start end i Parenthesized (OpenAt p) = failed 8 p
-  argument start end i Flexible (Past p) =
-      cond (starts 40 (drop p text)) (closing start end i p (matching style (suc p) (drop (suc p) text))) (bare_clause start end i)
-  argument start end i Flexible (OpenAt p) = failed 8 p
-  argument start end i Unsupported s = failed 10 end
+  argument start end i Parenthesized (Ok p) =
+      cond (starts 40 (drop p text)) (closing start end i p (matching (style fortran) (suc p) (drop (suc p) text))) (failed Reason.NoParenthesis p)
+  argument start end i Parenthesized (Err r) = Err (ClauseError.Failed r)
+  argument start end i Flexible (Ok p) =
+      cond (starts 40 (drop p text)) (closing start end i p (matching (style fortran) (suc p) (drop (suc p) text))) (bare_clause start end i)
+  argument start end i Flexible (Err r) = Err (ClauseError.Failed r)
+  argument start end i Unsupported s = failed Reason.NoClause end
 
+module _ (book : Book) (text : List ℕ) where
   -- `lex_clause`: the bytes of the word at a place
   abbrev pub word_length : ℕ → ℕ
   word_length at = leading is_word (drop at text)
@@ -83,6 +93,17 @@ module _ (book : Book) (text : List ℕ) where
   unfoldable pub clause_at : ℕ → Read
   unfolding leading entry_from rule_at matching skip trimmed
   clause_at at =
-      cond (eqb (word_length at) 0) (failed 10 at)
-      (argument at (at + word_length at) (index_or (found at)) (rule_or book.default (found at) book.clauses)
+      cond (eqb (word_length at) 0) (failed Reason.NoClause at)
+      (argument book.ignores_case text at (at + word_length at) (index_or (found at)) (rule_or book.default (found at) book.clauses)
       (skip book.ignores_case text (at + word_length at)))
+
+-- a word of a text that is not too long
+pub record WordIn (text : List ℕ) (start end : ℕ) : Type 0 where
+  pub short : length text ≤ max_length
+  pub some_bytes : start < end
+  pub inside : end ≤ length text
+
+-- from a place of a text on no literal or comment is unclosed
+pub record Clean (fortran : Bool) (text : List ℕ) (at : ℕ) : Type 0 where
+  pub within : at ≤ length text
+  pub nothing : (scan_at (style fortran) text at).fault ≡ None

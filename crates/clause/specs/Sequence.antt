@@ -1,37 +1,35 @@
 -- The sequence of clauses (`parse_sequence`).
 use Prim.Native.Nat.{ℕ, zero, suc, ◌-◌}
-use Rattle.std.specs.Prelude.{Bool, true, ◌&&◌, length, drop}
+use Rattle.std.specs.Prelude.{Bool, true, ◌&&◌, length, drop, Result, Ok, Err}
 use Rattle.std.proofs.Math.Bool.{false, cond}
 use mathlib.Core.List.{List, [], ◌∷◌}
 use Rattle.std.proofs.Math.Dec.{eqb}
 use Rattle.ascii.specs.Text.{starts}
-use Rattle.refusal.specs.Answer.{Answer, given, refused}
-use Rattle.lexer.specs.declared.Skipped.{Skipped}
-use Rattle.lexer.specs.declared.Skipped.TheVariants.{Past, OpenAt}
+use Rattle.refusal.specs.declared.Refusal.{Refusal}
+use Rattle.refusal.specs.Answer.{Answer, given, refused, refused_by}
 use Rattle.lexer.specs.Trivia.{skip}
 use Rattle.bookform.specs.declared.ClauseRule.{ClauseRule}
 use Rattle.bookform.specs.declared.ClauseRule.TheVariants.{Bare, Parenthesized, Flexible, Unsupported}
 use Rattle.rulebook.specs.Book.{Book}
 use Rattle.clause.specs.declared.ClauseRecord.{ClauseRecord}
-use Rattle.clause.specs.Clause.{clause, failed, deep, clause_at}
+use Rattle.clause.specs.declared.ClauseRead.{ClauseRead}
+use Rattle.clause.specs.declared.ClauseError.TheVariants.{Failed, Deep}
+use Rattle.clause.specs.declared.Separation.{Separation}
+use Rattle.clause.specs.Clause.{clause_at}
 
 -- what follows a clause: a place, with or without a comma on the way, or an open comment
-pub data Separated : Type 0 where
-  then : Bool → ℕ → Separated
-  open_comment : ℕ → Separated
+abbrev pub after_comma : Bool → Result ℕ Refusal → Result Separation Refusal
+after_comma comma (Ok p) = Ok (record { comma = comma; next = p })
+after_comma comma (Err r) = Err r
 
-abbrev pub after_comma : Bool → Skipped → Separated
-after_comma comma (Past p) = then comma p
-after_comma comma (OpenAt p) = open_comment p
-
-module _ (book : Book) (text : List ℕ) where
+module _ (fortran : Bool) (text : List ℕ) where
   -- trivia, perhaps a comma, trivia
-  abbrev pub at_comma : Skipped → Separated
-  at_comma (Past p) = cond (starts 44 (drop p text)) (after_comma true (skip book.ignores_case text (suc p))) (after_comma false (skip book.ignores_case text p))
-  at_comma (OpenAt p) = open_comment p
+  abbrev pub at_comma : Result ℕ Refusal → Result Separation Refusal
+  at_comma (Ok p) = cond (starts 44 (drop p text)) (after_comma true (skip fortran text (suc p))) (after_comma false (skip fortran text p))
+  at_comma (Err r) = Err r
 
-  abbrev pub separated : ℕ → Separated
-  separated at = at_comma (skip book.ignores_case text at)
+  abbrev pub separated : ℕ → Result Separation Refusal
+  separated at = at_comma (skip fortran text at)
 
 -- the clauses that were read, and the place of the unread rest
 pub record Sequence : Type 0 where
@@ -72,12 +70,14 @@ module _ (book : Book) (text : List ℕ) where
   sequence_from room comma (suc k) at (x ∷ xs) = sequence_from room comma k (suc at) xs
   sequence_from room comma zero at (x ∷ xs) =
       elim (clause_at book text at) [
-        | failed n p ↦ cond (is_unsupported book.default) (refused n p) (given (record { clauses = []; rest = at }))
-        | deep p ↦ refused 13 p
-        | clause r end ↦ cond (eqb room 0) (refused 14 at)
-            (elim (separated book text end) [
-              | open_comment p ↦ refused 8 p
-              | then after next ↦ consed (flagged r comma (after && eqb next (length text))) (sequence_from (room - 1) after (next - suc at) (suc at) xs)
+        | Err e ↦ elim e [
+          | Failed r ↦ cond (is_unsupported book.default) (refused_by r) (given (record { clauses = []; rest = at }))
+          | Deep p ↦ refused 13 p
+        ]
+        | Ok c ↦ cond (eqb room 0) (refused 14 at)
+            (elim (separated book.ignores_case text c.end) [
+              | Err r ↦ refused_by r
+              | Ok n ↦ consed (flagged c.clause comma (n.comma && eqb n.next (length text))) (sequence_from (room - 1) n.comma (n.next - suc at) (suc at) xs)
             ])
       ]
 
@@ -86,6 +86,6 @@ module _ (book : Book) (text : List ℕ) where
   unfolding sequence_from skip
   sequence_at room at =
       elim (skip book.ignores_case text at) [
-        | OpenAt p ↦ refused 8 p
-        | Past p ↦ sequence_from room false zero p (drop p text)
+        | Err r ↦ refused_by r
+        | Ok p ↦ sequence_from room false zero p (drop p text)
       ]

@@ -6,21 +6,23 @@ pub mod records;
 pub mod single;
 pub mod steps;
 
-ghost use Rattle.std.specs.Prelude.{◌≡◌, min, length};
-ghost use Rattle.clause.specs.Calls.{SequenceCall, sequence_call, sequence_gives};
+ghost use Rattle.std.specs.Prelude.{◌≡◌, ◌≤◌, min, length};
+ghost use Rattle.refusal.specs.Answer.{told};
+ghost use Rattle.rulebook.specs.Index.{Fresh};
+ghost use Rattle.clause.specs.Calls.{Admits, SequenceCall, sequence_call};
 ghost use Rattle.clause.specs.Steps.{sequence_into};
 
 use refusal::Refusal;
-use rulebook::Header;
+use rulebook::CheckedBook;
 
 // What is recorded of a clause: offsets of the joined text, its entry in the book, and its commas.
 // A zeroed record is bare with every number 0.
 #[repr(C)]
-#[derive(Clone, Copy)]
+#[derive(Clone, Copy, Debug, Default, PartialEq, Eq)]
 pub struct ClauseRecord {
     pub name_start: u16,
     pub name_end: u16,
-    // index of the clause's entry, 65,535 if it has none
+    // index of the clause's entry, 65,535 if it has none: C reads it so
     pub entry: u16,
     pub parenthesized: bool,
     // the trimmed content, 0 0 if bare
@@ -33,44 +35,46 @@ pub struct ClauseRecord {
 }
 
 // How many clauses were read, and the place of the unread rest.
-#[derive(Clone, Copy)]
+#[derive(Clone, Copy, Debug, PartialEq, Eq)]
 pub struct SequenceEnd {
     pub count: usize,
     pub rest: usize,
 }
 
-// The clauses' number and the rest, or a refusal.
-#[derive(Clone, Copy)]
-pub enum SequenceAnswer {
-    Read(SequenceEnd),
-    Refused(Refusal),
-}
-
-// A clause's word: its range of the text, and its entry in the book, 65,535 for none.
-#[derive(Clone, Copy)]
-pub struct ClauseWord {
-    pub start: usize,
+// A clause that was read, with the place after it.
+#[derive(Clone, Copy, Debug, PartialEq, Eq)]
+pub struct ClauseRead {
+    pub clause: ClauseRecord,
     pub end: usize,
-    pub entry: u16,
 }
 
-// What was read at a place: a clause with the place after it, a failure that the default rule judges, or the 257th bracket open.
-#[derive(Clone, Copy)]
-pub enum ClauseRead {
-    Clause(ClauseRecord, usize),
+// Why no clause was read: a failure that the default rule judges, or the place of the 257th bracket open.
+#[derive(Clone, Copy, Debug, PartialEq, Eq)]
+pub enum ClauseError {
     Failed(Refusal),
     Deep(usize),
 }
 
-// What follows a clause: a place, with or without a comma on the way, or an open comment.
-#[derive(Clone, Copy)]
-pub enum Separation {
-    Then(bool, usize),
-    OpenAt(usize),
+impl From<Refusal> for ClauseError {
+    ghost use Rattle.std.specs.Prelude.{◌≡◌};
+    ghost use Rattle.clause.specs.declared.ClauseError.{ClauseError};
+
+    ghost from_gives = { λ r e. e ≡ ClauseError.Failed r };
+
+    fn from(refusal: Refusal) -> ClauseError {
+        ClauseError::Failed(refusal)
+    }
+}
+
+// What follows a clause: a place, with or without a comma on the way.
+#[derive(Clone, Copy, Debug, PartialEq, Eq)]
+pub struct Separation {
+    pub comma: bool,
+    pub next: usize,
 }
 
 // How far a sequence has come: more is to be read, the list has ended, or it is refused.
-#[derive(Clone, Copy)]
+#[derive(Clone, Copy, Debug, PartialEq, Eq)]
 pub enum Progress {
     Going,
     Ended,
@@ -78,11 +82,10 @@ pub enum Progress {
 }
 
 // A sequence between two clauses.
-#[derive(Clone, Copy)]
+#[derive(Clone, Copy, Debug, PartialEq, Eq)]
 pub struct SequenceState {
     // the record for the slot of the last step, zeroed if that step read no clause
     pub clause: ClauseRecord,
-    pub header: Header,
     pub progress: Progress,
     pub at: usize,
     // a comma stands before the place
@@ -97,33 +100,70 @@ pub struct SequenceState {
 
 // The answer with its slots, by value.
 #[derive(Clone, Copy)]
-pub struct Sequence512 {
-    pub answer: SequenceAnswer,
-    pub records: [ClauseRecord; 512],
+pub struct SequenceArray<const N: usize> {
+    pub answer: Result<SequenceEnd, Refusal>,
+    pub records: [ClauseRecord; N],
 }
 
-// The clauses of a text into the lent slots. Refusals 1, 2 and 4, then 8 and 10 to 14 in reading order.
-pub fn parse_sequence(book: &[u8], text: &[u8], records: &mut [ClauseRecord]) -> SequenceAnswer
-    ensures { record { answer = sequence_gives result; records = records.new }
-        ≡ sequence_call book.now text.now (length records.old) }
+// The text and then the book are checked: refusals 1, 2 and 4.
+fn admitted<'a>(
+    book: &'a [u8],
+    text: &[u8],
+    index: &'a mut [u32; 1024],
+) -> Result<CheckedBook<'a>, Refusal>
+    requires { Fresh index.old }
+    ensures { Admits book.now text.now result }
 {
-    let mut index = [0u32; 1024];
-    let start = steps::start(book, text, records.len(), &mut index);
-    records::read_from(book, &index, text, start, records)
+    refusal::check_text(text)?;
+    rulebook::checked(book, index)
 }
 
-// The same over an array by value, of which so many slots are used: for callers that hold their records in a local.
-pub fn parse_sequence_512(
+// The clauses of a text into so many of the lent slots; every other slot is zeroed.
+fn parse_into(
     book: &[u8],
     text: &[u8],
     slots: usize,
-    mut records: [ClauseRecord; 512],
-) -> Sequence512
-    ensures { record { answer = sequence_gives result.answer; records = result.records }
-        ≡ sequence_into book.now text.now (min slots 512) 512 }
+    records: &mut [ClauseRecord],
+) -> Result<SequenceEnd, Refusal>
+    requires { slots ≤ length records.old }
+    ensures { record { answer = told result; records = records.new }
+        ≡ sequence_into book.now text.now slots (length records.old) }
 {
     let mut index = [0u32; 1024];
-    let start = steps::start_512(book, text, slots, &mut index);
-    let answer = records::read_from(book, &index, text, start, &mut records);
-    steps::paired(answer, records)
+    match admitted(book, text, &mut index) {
+        Ok(book) => {
+            let start = steps::start_at(&book, text, 0, slots);
+            records::read_from(&book, text, start, records)
+        }
+        Err(refusal) => {
+            records.fill(records::zero_record());
+            Err(refusal)
+        }
+    }
+}
+
+// The clauses of a text into the lent slots. Refusals 1, 2 and 4, then 8 and 10 to 14 in reading order.
+pub fn parse_sequence(
+    book: &[u8],
+    text: &[u8],
+    records: &mut [ClauseRecord],
+) -> Result<SequenceEnd, Refusal>
+    ensures { record { answer = told result; records = records.new }
+        ≡ sequence_call book.now text.now (length records.old) }
+{
+    parse_into(book, text, records.len(), records)
+}
+
+// The same over an array by value, of which so many slots are used: for callers that hold their records in a local.
+pub fn parse_sequence_array<const N: usize>(
+    book: &[u8],
+    text: &[u8],
+    slots: usize,
+    mut records: [ClauseRecord; N],
+) -> SequenceArray<N>
+    ensures { record { answer = told result.answer; records = result.records }
+        ≡ sequence_into book.now text.now (min slots N) N }
+{
+    let answer = parse_into(book, text, slots.min(N), &mut records);
+    SequenceArray { answer, records }
 }

@@ -1,27 +1,32 @@
 // One clause: its word, its entry and rule under the book, and its argument.
-ghost use Rattle.std.specs.Prelude.{◌≡◌, true, cond, suc, ◌≤◌, ◌<◌, length, drop};
+ghost use Rattle.std.specs.Prelude.{◌≡◌, Option, Some, cond, suc, ◌≤◌, ◌<◌, length, drop, IfSome};
 ghost use Rattle.refusal.specs.Answer.{max_length};
 ghost use Rattle.code.specs.Matching.{matching};
 ghost use Rattle.lexer.specs.Trivia.{skip};
 ghost use Rattle.rulebook.specs.Book.{book_of, header_of};
-ghost use Rattle.rulebook.specs.Check.{book_fault};
-ghost use Rattle.rulebook.specs.Index.{Looked};
-ghost use Rattle.clause.specs.Clause.{style, closing, argument as argument_of, clause_at};
-ghost use Rattle.clause.specs.Sequence.{after_comma, separated};
-ghost use Rattle.clause.specs.Steps.{flag_book, bare_record, read_of, separated_of, WordIn, Clean};
+ghost use Rattle.clause.specs.Clause.{style, word_record, bare_clause, closing, argument as argument_of, clause_at, WordIn, Clean};
+ghost use Rattle.clause.specs.Sequence.{separated};
 
-use crate::{ClauseRead, ClauseRecord, ClauseWord, Separation};
-use ascii::ByteSet;
+use crate::{ClauseError, ClauseRead, ClauseRecord, Separation};
+use ascii::Range;
+use ascii::sets::Word;
 use bookform::ClauseRule;
-use code::{CommentStyle, Match};
-use lexer::Skipped;
+use code::{CommentStyle, NoMatch};
 use refusal::{Reason, Refusal};
-use rulebook::Header;
+use rulebook::CheckedBook;
 
-fn fails(reason: Reason, place: usize) -> ClauseRead
-    ensures { result ≡ ClauseRead.Failed (record { reason = reason; place = place }) }
-{
-    ClauseRead::Failed(Refusal { reason, place })
+// A clause's word in its text, and its entry in the book, 65,535 for none.
+#[derive(Clone, Copy)]
+struct ClauseWord<'a> {
+    text: &'a [u8],
+    fortran: bool,
+    // a place from which on no literal or comment is unclosed
+    clean: usize,
+    start: usize,
+    end: usize,
+    entry: u16,
+    ghost word: { WordIn text.now start end },
+    ghost rest: { Clean fortran text.now clean },
 }
 
 // A place of a text as a record holds it.
@@ -32,29 +37,9 @@ fn narrow(place: usize) -> u16
     place as u16
 }
 
-// A word alone.
-fn bare(word: ClauseWord) -> ClauseRead
-    requires { (word.start ≤ max_length) × (word.end ≤ max_length) }
-    ensures { result ≡ ClauseRead.Clause (bare_record word) word.end }
-{
-    ClauseRead::Clause(
-        ClauseRecord {
-            name_start: narrow(word.start),
-            name_end: narrow(word.end),
-            entry: word.entry,
-            parenthesized: false,
-            content_start: 0,
-            content_end: 0,
-            preceded: false,
-            trailing: false,
-        },
-        word.end,
-    )
-}
-
 // The comments that matching passes over.
 fn style_of(fortran: bool) -> CommentStyle
-    ensures { result ≡ cond fortran CommentStyle.Fortran CommentStyle.CLike }
+    ensures { result ≡ style fortran }
 {
     if fortran {
         CommentStyle::Fortran
@@ -63,130 +48,125 @@ fn style_of(fortran: bool) -> CommentStyle
     }
 }
 
-// The word with an argument, whose parenthesis opens at a place.
-fn closed(text: &[u8], word: ClauseWord, open: usize, fortran: bool, clean: usize) -> ClauseRead
-    requires { WordIn text.now word × ((word.end ≤ «open») × ((«open» < length text.now) × Clean fortran text.now clean)) }
-    ensures { read_of result ≡ closing (flag_book fortran) text.now word.start word.end word.entry «open»
-        (matching (style (flag_book fortran) text.now) (suc «open») (drop (suc «open») text.now)) }
-{
-    let inner = open + 1;
-    match code::walk::match_from(text, inner, style_of(fortran), clean) {
-        Match::ClosedAt(close) => {
-            let content = ascii::trim_between(text, inner, close);
-            ClauseRead::Clause(
-                ClauseRecord {
-                    name_start: narrow(word.start),
-                    name_end: narrow(word.end),
-                    entry: word.entry,
-                    parenthesized: true,
-                    content_start: narrow(content.start),
-                    content_end: narrow(content.end),
-                    preceded: false,
-                    trailing: false,
-                },
-                close + 1,
-            )
-        }
-        Match::Unmatched => fails(Reason::Unmatched, open),
-        Match::DeepAt(place) => ClauseRead::Deep(place),
-    }
-}
-
-// The word with the argument behind it, which it needs or may have.
-fn with_argument(
-    text: &[u8],
-    word: ClauseWord,
-    fortran: bool,
-    needed: bool,
-    clean: usize,
-) -> ClauseRead
-    requires { WordIn text.now word × Clean fortran text.now clean }
-    ensures { read_of result ≡ argument_of (flag_book fortran) text.now word.start word.end word.entry
-        (cond needed ClauseRule.Parenthesized ClauseRule.Flexible) (skip fortran text.now word.end) }
-{
-    match lexer::trivia::skip(text, word.end, fortran) {
-        Skipped::OpenAt(place) => fails(Reason::UnclosedComment, place),
-        Skipped::Past(place) => {
-            if ascii::byte_at(text, place) == 40 {
-                return closed(text, word, place, fortran, clean);
-            }
-            if needed {
-                return fails(Reason::NoParenthesis, place);
-            }
-            bare(word)
+impl ClauseWord<'_> {
+    // Its record, with the range of its content if it has an argument.
+    fn record(self, content: Option<Range>) -> ClauseRecord
+        requires { IfSome content (λ r. (r.start ≤ max_length) × (r.end ≤ max_length)) }
+        ensures { result ≡ word_record self.start self.end self.entry content }
+    {
+        let parenthesized = content.is_some();
+        let content = content.unwrap_or(Range { start: 0, end: 0 });
+        ClauseRecord {
+            name_start: narrow(self.start),
+            name_end: narrow(self.end),
+            entry: self.entry,
+            parenthesized,
+            content_start: narrow(content.start),
+            content_end: narrow(content.end),
+            preceded: false,
+            trailing: false,
         }
     }
-}
 
-// The clause of a word, by its rule.
-fn argument(
-    text: &[u8],
-    word: ClauseWord,
-    rule: ClauseRule,
-    fortran: bool,
-    clean: usize,
-) -> ClauseRead
-    requires { WordIn text.now word × Clean fortran text.now clean }
-    ensures { read_of result ≡ argument_of (flag_book fortran) text.now word.start word.end word.entry
-        rule (skip fortran text.now word.end) }
-{
-    match rule {
-        ClauseRule::Bare => bare(word),
-        ClauseRule::Parenthesized => with_argument(text, word, fortran, true, clean),
-        ClauseRule::Flexible => with_argument(text, word, fortran, false, clean),
-        ClauseRule::Unsupported => fails(Reason::NoClause, word.end),
+    // The word alone.
+    fn bare(self) -> Result<ClauseRead, ClauseError>
+        ensures { result ≡ bare_clause self.start self.end self.entry }
+    {
+        Ok(ClauseRead {
+            clause: self.record(None),
+            end: self.end,
+        })
+    }
+
+    // The word with an argument, whose parenthesis opens at a place.
+    fn closed(self, open: usize) -> Result<ClauseRead, ClauseError>
+        requires { (self.end ≤ «open») × («open» < length self.text.now) }
+        ensures { result ≡ closing self.fortran self.text.now self.start self.end self.entry «open»
+            (matching (style self.fortran) (suc «open») (drop (suc «open») self.text.now)) }
+    {
+        let inner = open + 1;
+        match code::walk::match_from(self.text, inner, style_of(self.fortran), self.clean) {
+            Ok(close) => {
+                let content = ascii::trim_between(self.text, inner, close);
+                Ok(ClauseRead {
+                    clause: self.record(Some(content)),
+                    end: close + 1,
+                })
+            }
+            Err(NoMatch::Unmatched) => Err(ClauseError::Failed(Reason::Unmatched.at(open))),
+            Err(NoMatch::DeepAt(place)) => Err(ClauseError::Deep(place)),
+        }
+    }
+
+    // The word with the argument behind it, which it needs or may have.
+    fn with_argument(self, needed: bool) -> Result<ClauseRead, ClauseError>
+        ensures { result ≡ argument_of self.fortran self.text.now self.start self.end self.entry
+            (cond needed ClauseRule.Parenthesized ClauseRule.Flexible) (skip self.fortran self.text.now self.end) }
+    {
+        let place = lexer::trivia::skip(self.text, self.end, self.fortran)?;
+        if ascii::byte_at(self.text, place) == b'(' {
+            return self.closed(place);
+        }
+        if needed {
+            return Err(ClauseError::Failed(Reason::NoParenthesis.at(place)));
+        }
+        self.bare()
+    }
+
+    // The clause of the word, by its rule.
+    fn argument(self, rule: ClauseRule) -> Result<ClauseRead, ClauseError>
+        ensures { result ≡ argument_of self.fortran self.text.now self.start self.end self.entry
+            rule (skip self.fortran self.text.now self.end) }
+    {
+        match rule {
+            ClauseRule::Bare => self.bare(),
+            ClauseRule::Parenthesized => self.with_argument(true),
+            ClauseRule::Flexible => self.with_argument(false),
+            ClauseRule::Unsupported => Err(ClauseError::Failed(Reason::NoClause.at(self.end))),
+        }
     }
 }
 
-// The clause at a place, under a book that is valid, where nothing is unclosed from another place on.
+// The clause at a place of a text that is not too long, where nothing is unclosed from another place on.
 pub fn read_clause(
-    book: &[u8],
-    header: Header,
-    index: &[u32],
+    book: &CheckedBook,
     text: &[u8],
     at: usize,
     clean: usize,
-) -> ClauseRead
-    requires book_value { (book_fault book.now ≡ None) × ((header ≡ header_of book.now) × ((length text.now ≤ max_length) × (at ≤ length text.now))) }
-    requires looked { Looked header.clauses book.now index.now }
-    requires clean { Clean header.ignores_case text.now clean }
-    ensures { read_of result ≡ clause_at (book_of book.now) text.now at }
+) -> Result<ClauseRead, ClauseError>
+    requires short { length text.now ≤ max_length }
+    requires inside { at ≤ length text.now }
+    requires clean { Clean (header_of book.now.bytes.now).ignores_case text.now clean }
+    ensures { result ≡ clause_at (book_of book.now.bytes.now) text.now at }
 {
-    let end = ascii::run_end(text, at, ByteSet::Word);
+    let end = ascii::run_end::<Word>(text, at);
     if end == at {
-        return fails(Reason::NoClause, at);
+        return Err(ClauseError::Failed(Reason::NoClause.at(at)));
     }
-    let found = rulebook::lookup::find_clause(book, header, index, text, at, end);
-    let rule = found.rule;
+    let found = book.find_clause(&text[at..end]);
     let word = ClauseWord {
+        text,
+        fortran: book.header.ignores_case,
+        clean,
         start: at,
         end,
         entry: found.index,
     };
-    argument(text, word, rule, header.ignores_case, clean)
-}
-
-fn after_comma(skipped: Skipped) -> Separation
-    ensures { separated_of result ≡ after_comma true skipped }
-{
-    match skipped {
-        Skipped::Past(place) => Separation::Then(true, place),
-        Skipped::OpenAt(place) => Separation::OpenAt(place),
-    }
+    word.argument(found.rule)
 }
 
 // What follows a clause that ends at a place: trivia, perhaps a comma, trivia. Without a comma the trivia is passed already.
-pub fn separation(text: &[u8], at: usize, fortran: bool) -> Separation
+pub fn separation(text: &[u8], at: usize, fortran: bool) -> Result<Separation, Refusal>
     requires { at ≤ length text.now }
-    ensures { separated_of result ≡ separated (flag_book fortran) text.now at }
+    ensures { result ≡ separated fortran text.now at }
 {
-    match lexer::trivia::skip(text, at, fortran) {
-        Skipped::OpenAt(place) => Separation::OpenAt(place),
-        Skipped::Past(place) => {
-            if ascii::byte_at(text, place) == 44 {
-                return after_comma(lexer::trivia::skip(text, place + 1, fortran));
-            }
-            Separation::Then(false, place)
-        }
+    let place = lexer::trivia::skip(text, at, fortran)?;
+    if ascii::byte_at(text, place) == b',' {
+        let next = lexer::trivia::skip(text, place + 1, fortran)?;
+        return Ok(Separation { comma: true, next });
     }
+    Ok(Separation {
+        comma: false,
+        next: place,
+    })
 }
