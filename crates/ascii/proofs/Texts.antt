@@ -11,6 +11,8 @@ use native.Mathlib.Omega.{arith}
 use lib.ListN.{length, take, drop, get_or, length-reverse, length-drop, drop_of_length-le}
 use lib.Seq.{drop-cons, take-suc, split_at, append_snoc}
 use lib.Dec.{eqb, ltb}
+use Rattle.std.specs.List.{prefix_len}
+use Rattle.std.proofs.lemmas.List.Sums.{prefix_len_is, suffix_len_is}
 use borrow.Author.Tests.{lt-ltb, le-ltb, ltb-true, eq-eqb, ne_eqb, eqb-true, eqb-false}
 use Rattle.ascii.specs.declared.Range.{Range}
 use Rattle.ascii.specs.Ascii.{is_trimmed}
@@ -27,18 +29,26 @@ leading_le p (x ∷ xs) = go (p x) (leading_le p xs)
     go true h = omega arith
     go false h = omega arith
 
+-- it is the library's count of leading elements
+pub leading_counts : (p : ℕ → Bool) (xs : List ℕ) → leading p xs ≡ prefix_len p xs
+unfolding leading
+leading_counts p [] = refl
+leading_counts p (x ∷ xs) =
+    let e : suc (leading p xs) ≡ 1 + prefix_len p xs = omega (arith, leading_counts p xs) in
+    ap (λ n. cond (p x) n 0) e
+
+-- so a run is known by what it passes and where it stops, from the front and from the back
+pub leading_is : (p : ℕ → Bool) (xs : List ℕ) (n : ℕ) → n ≤ length xs → ((k : ℕ) → k < n → p (get_or xs k 0) ≡ true) → (n < length xs → p (get_or xs n 0) ≡ false) → leading p xs ≡ n
+leading_is p xs n h before here = leading_counts p xs ∙ prefix_len_is p xs n 0 h before here
+
+pub trailing_is : (p : ℕ → Bool) (xs : List ℕ) (n : ℕ) → n ≤ length xs → ((k : ℕ) → n ≤ k → k < length xs → p (get_or xs k 0) ≡ true) → (0 < n → p (get_or xs (n - 1) 0) ≡ false)
+    → n ≡ length xs - leading p (reverse xs)
+trailing_is p xs n h after here = omega (arith, leading_counts p (reverse xs), suffix_len_is p xs n 0 h after here)
+
 module _ (p : ℕ → Bool) (s : List ℕ) (i : ℕ) where
   pub leading-more : i < length s → p (get_or s i 0) ≡ true → leading p (drop i s) ≡ suc (leading p (drop (i + 1) s))
   unfolding leading
   leading-more h e = rw (add-one, drop-cons s i 0, leading, e)
-
-  pub leading-stop : i < length s → p (get_or s i 0) ≡ false → leading p (drop i s) ≡ 0
-  unfolding leading
-  leading-stop h e = rw (drop-cons s i 0, leading, e)
-
-  pub leading_end : length s ≤ i → leading p (drop i s) ≡ 0
-  unfolding leading
-  leading_end h = rw (drop_of_length-le s h)
 
 -- a run stops at a byte without the property
 leading-bounded : (p : ℕ → Bool) (ws : List ℕ) (b : ℕ) (vs : List ℕ) → p b ≡ false → leading p (ws ++ b ∷ vs) ≤ length ws
@@ -75,22 +85,6 @@ leading-apart p xs h =
     let f = leading-bounded p (reverse rest) b (reverse (take k xs)) (leading-stops p xs h) in
     omega (arith, rw (← e) at f, length-reverse rest, length-drop (suc k) xs)
 
--- a run at the end of the first i bytes of a text, from the back
-module _ (p : ℕ → Bool) (s : List ℕ) where
-  pub trailing-more : (i : ℕ) → 0 < i → i ≤ length s → p (get_or s (i - 1) 0) ≡ true → leading p (reverse (take i s)) ≡ suc (leading p (reverse (take (i - 1) s)))
-  unfolding leading
-  trailing-more zero z h e = absurd (omega arith)
-  trailing-more (suc i) z h e =
-      let q : suc i - 1 ≡ i = omega arith in
-      rw (q, take-suc s i 0 (omega arith), reverse-append (take i s) (get_or s i 0 ∷ []), leading, rw q at e)
-
-  pub trailing-stop : (i : ℕ) → 0 < i → i ≤ length s → p (get_or s (i - 1) 0) ≡ false → leading p (reverse (take i s)) ≡ 0
-  unfolding leading
-  trailing-stop zero z h e = absurd (omega arith)
-  trailing-stop (suc i) z h e =
-      let q : suc i - 1 ≡ i = omega arith in
-      rw (take-suc s i 0 (omega arith), reverse-append (take i s) (get_or s i 0 ∷ []), leading, rw q at e)
-
 -- comparing
 pub begins-all : (f : ℕ → ℕ) (w s : List ℕ) (j : ℕ) → length w ≤ j → begins f (drop j w) s ≡ true
 unfolding begins
@@ -106,19 +100,23 @@ module _ (f : ℕ → ℕ) (w s : List ℕ) (j i : ℕ) where
   unfolding begins
   begins-next h g = rw (add-one, add-one, drop-cons w j 0, drop-cons s i 0)
 
--- the first byte above 127
-module _ (s : List ℕ) (i : ℕ) where
-  pub high-here : i < length s → 127 < get_or s i 0 → first_high i (drop i s) ≡ Some i
-  unfolding first_high
-  high-here h g = rw (drop-cons s i 0, first_high, lt-ltb 127 (get_or s i 0) g)
+-- the first byte above 127 is known by the bytes before it
+pub high_is : (at : ℕ) (xs : List ℕ) (n : ℕ) → n < length xs → ((k : ℕ) → k < n → get_or xs k 0 ≤ 127) → 127 < get_or xs n 0 → first_high at xs ≡ Some (at + n)
+unfolding first_high
+high_is at [] n h before here = absurd (omega arith)
+high_is at (x ∷ xs) zero h before here = rw (lt-ltb 127 x here, add-zero)
+high_is at (x ∷ xs) (suc n) h before here =
+    let shift : suc at + n ≡ at + suc n = omega arith in
+    rw (le-ltb 127 x (before 0 (omega arith)), high_is (suc at) xs n (omega arith) (λ k l. before (suc k) (omega arith)) here, shift)
 
-  pub high-later : i < length s → get_or s i 0 ≤ 127 → first_high i (drop i s) ≡ first_high (i + 1) (drop (i + 1) s)
-  unfolding first_high
-  high-later h g = rw (add-one, drop-cons s i 0, first_high, le-ltb 127 (get_or s i 0) g)
+pub high_none : (at : ℕ) (xs : List ℕ) → ((k : ℕ) → k < length xs → get_or xs k 0 ≤ 127) → first_high at xs ≡ None
+unfolding first_high
+high_none at [] low = refl
+high_none at (x ∷ xs) low = rw (le-ltb 127 x (low 0 (omega arith)), high_none (suc at) xs (λ k l. low (suc k) (omega arith)))
 
-  pub high-none : length s ≤ i → first_high i (drop i s) ≡ None
-  unfolding first_high
-  high-none h = rw (drop_of_length-le s h)
+high-later : (s : List ℕ) (i : ℕ) → i < length s → get_or s i 0 ≤ 127 → first_high i (drop i s) ≡ first_high (i + 1) (drop (i + 1) s)
+unfolding first_high
+high-later s i h g = rw (add-one, drop-cons s i 0, first_high, le-ltb 127 (get_or s i 0) g)
 
 -- the k bytes after the one at a place, and that one, are not above 127
 module _ (s : List ℕ) (i : ℕ) where
