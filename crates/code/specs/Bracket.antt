@@ -1,9 +1,9 @@
 -- Brackets: the bytes of their kinds, and what a byte of code does to the open ones, given by their closing bytes, the innermost first.
-use Rattle.std.specs.Prelude.{◌≡◌, ℕ, zero, suc, ◌<◌, Bool, true, false, cond, ◌||◌, List, [], ◌∷◌, length, drop, get_or, eqb, ltb}
+use Rattle.std.specs.Prelude.{ℕ, zero, suc, Bool, true, false, cond, ◌||◌, List, [], ◌∷◌, length, drop, get_or, eqb, ltb, Result, Ok, Err}
 use Rattle.code.specs.declared.Bracket.{Bracket}
 use Rattle.code.specs.declared.Bracket.TheVariants.{Round, Square, Curly, Angle}
-use Rattle.code.specs.declared.OpenBrackets.{OpenBrackets}
-use Rattle.code.specs.declared.Change.{Change}
+use Rattle.code.specs.declared.BracketError.{BracketError}
+use Rattle.code.specs.declared.BracketError.TheVariants.{Wrong, Deep}
 
 -- "The bracket kinds carry their own opening and closing bytes."
 abbrev pub opening_of : Bracket → ℕ
@@ -69,32 +69,13 @@ close b stack = cond (top_is b stack) (held (drop 1 stack)) wrong
 unfoldable pub taken : List ℕ → ℕ → Brackets
 taken stack b = cond (is_opening b) (push (closer b) stack) (cond (is_closing b) (close b stack) (held stack))
 
--- the first d entries of an array, the last one first
+-- what a declared outcome tells, with the brackets that are open after it
+abbrev pub outcome : Result (Unit {0}) BracketError → List ℕ → Brackets
+outcome (Ok u) stack = held stack
+outcome (Err Wrong) stack = wrong
+outcome (Err Deep) stack = deep
+
+-- the first d entries of an array, the last one first: the declared stack as a list, the innermost first
 abbrev pub stacked : List ℕ → ℕ → List ℕ
 stacked ks zero = []
 stacked ks (suc d) = get_or ks d 0 ∷ stacked ks d
-
--- the declared stack as a list, the innermost first
-unfoldable pub open_of : OpenBrackets → List ℕ
-open_of o = stacked o.closing o.depth
-
--- a declared change, made to these brackets
-abbrev pub changed : Change → List ℕ → Brackets
-changed (Change.Push b) stack = held (b ∷ stack)
-changed Change.Pop stack = held (drop 1 stack)
-changed Change.Keep stack = held stack
-changed Change.Wrong stack = wrong
-changed Change.Deep stack = deep
-
--- a change of so many brackets stays within the most, and takes away none where none is
-abbrev pub Suits : ℕ → Change → Type 0
-Suits depth (Change.Push b) = depth < max_depth
-Suits depth Change.Pop = 0 < depth
-Suits depth Change.Keep = Unit {0}
-Suits depth Change.Wrong = Unit {0}
-Suits depth Change.Deep = Unit {0}
-
--- so many brackets are open, and this byte closes the innermost
-pub record Shows (depth inner : ℕ) (stack : List ℕ) : Type 0 where
-  pub size : length stack ≡ depth
-  pub top : 0 < depth → get_or stack 0 0 ≡ inner

@@ -5,12 +5,10 @@ use Rattle.ascii.specs.Ascii.{is_eol}
 use Rattle.ascii.specs.Text.{starts, up_to}
 use Rattle.code.specs.declared.CommentStyle.{CommentStyle}
 use Rattle.code.specs.declared.CommentStyle.TheVariants.{Block, CLike, Fortran, FortranBlock}
-use Rattle.code.specs.declared.End.{End}
-use Rattle.code.specs.declared.End.TheVariants.{Before, Never}
 use Rattle.code.specs.declared.Piece.{Piece}
 use Rattle.code.specs.declared.Piece.TheVariants.{Code, Hidden, OpenQuote, OpenComment}
 use Rattle.code.specs.declared.Unclosed.{Unclosed}
-use Rattle.code.specs.declared.Unclosed.TheVariants.{Nothing, Quote, Comment}
+use Rattle.code.specs.declared.Unclosed.TheVariants.{Quote, Comment}
 
 abbrev pub is_c_like : CommentStyle → Bool
 is_c_like Block = false
@@ -36,11 +34,6 @@ has_escapes FortranBlock = false
 abbrev pub more : ℕ → Option ℕ → Option ℕ
 more n None = None
 more n (Some k) = Some (n + k)
-
--- the declared end as the place after it
-abbrev pub end_of : End → Option ℕ
-end_of (Before k) = Some k
-end_of Never = None
 
 -- the quote rule: byte x of a literal in q keeps the one after it inside, if it is a backslash and the style has escapes, or the first of a doubled quote
 abbrev pub hides_next : CommentStyle → ℕ → ℕ → ℕ → Bool
@@ -101,7 +94,7 @@ pub record CodeByte : Type 0 where
 -- a text's code bytes up to its first quote or comment without an end, and that one with its place
 pub record Scan : Type 0 where
   pub codes : List CodeByte
-  pub fault : Unclosed
+  pub fault : Option Unclosed
 
 -- how many bytes after its first a piece takes
 abbrev pub rest : Piece → ℕ
@@ -114,14 +107,14 @@ rest OpenComment = zero
 abbrev pub placed : Piece → CodeByte → Scan → Scan
 placed Code c s = record { codes = c ∷ s.codes; fault = s.fault }
 placed (Hidden n) c s = s
-placed OpenQuote c s = record { codes = []; fault = Quote c.place }
-placed OpenComment c s = record { codes = []; fault = Comment c.place }
+placed OpenQuote c s = record { codes = []; fault = Some (Quote c.place) }
+placed OpenComment c s = record { codes = []; fault = Some (Comment c.place) }
 
 -- `code_chars`: the scan of a text whose first byte stands at place at, once k bytes are passed over
 unfoldable pub scan_from : CommentStyle → ℕ → ℕ → List ℕ → Scan
 unfolding piece
-scan_from style zero at [] = record { codes = []; fault = Nothing }
-scan_from style (suc k) at [] = record { codes = []; fault = Nothing }
+scan_from style zero at [] = record { codes = []; fault = None }
+scan_from style (suc k) at [] = record { codes = []; fault = None }
 scan_from style zero at (x ∷ xs) =
     placed (piece style (x ∷ xs)) (record { place = at; byte = x }) (scan_from style (rest (piece style (x ∷ xs))) (suc at) xs)
 scan_from style (suc k) at (x ∷ xs) = scan_from style k (suc at) xs
@@ -144,6 +137,6 @@ Fits at n OpenQuote = Unit {0}
 Fits at n OpenComment = Unit {0}
 
 -- an end after a place lies behind it, and within a text of n bytes
-abbrev pub Ends : ℕ → ℕ → End → Type 0
-Ends from n (Before k) = (from < k) × (k ≤ n)
-Ends from n Never = Unit {0}
+abbrev pub Ends : ℕ → ℕ → Option ℕ → Type 0
+Ends from n (Some k) = (from < k) × (k ≤ n)
+Ends from n None = Unit {0}

@@ -1,18 +1,14 @@
 -- From which places of a text on nothing is unclosed, told from the back of the text: a matter of speed, no rule of document 01.
 use Rattle.std.specs.Prelude.{ℕ, zero, suc, ◌+◌, ◌*◌, ◌/◌, ◌≤◌, ◌<◌, ◌≡◌, Bool, true, false, cond, not, ◌&&◌, List, eqb, length, drop, get_or}
-use Rattle.std.specs.Prelude.{Option, Some, None}
+use Rattle.std.specs.Prelude.{Option, Some, None, is_none, take}
+use Rattle.std.specs.List.{list_all}
 use Rattle.ascii.specs.Ascii.{is_eol}
 use Rattle.ascii.specs.Text.{up_to}
 use Rattle.code.specs.declared.CommentStyle.{CommentStyle}
-use Rattle.code.specs.declared.Unclosed.{Unclosed}
-use Rattle.code.specs.declared.Unclosed.TheVariants.{Nothing, Quote, Comment}
 use Rattle.code.specs.declared.Flags.{Flags}
+use Rattle.code.specs.declared.Near.{Near}
+use Rattle.code.specs.declared.MarkBits.{MarkBits}
 use Rattle.code.specs.Code.{more, literal, block_end, is_plain, scan_at}
-
-abbrev pub is_nothing : Unclosed → Bool
-is_nothing Nothing = true
-is_nothing (Quote p) = false
-is_nothing (Comment p) = false
 
 -- behind a text nothing is unclosed but what is open already
 abbrev pub past_end : Flags
@@ -21,7 +17,7 @@ past_end = record { code = true; single = false; double = false; block = false; 
 module _ (style : CommentStyle) (text : List ℕ) where
   -- from a place on nothing is unclosed, where the place stands in code
   unfoldable pub clean : ℕ → Bool
-  clean at = is_nothing (scan_at style text at).fault
+  clean at = is_none (scan_at style text at).fault
 
   -- from where something ends on; what has no end is unclosed itself
   abbrev pub ends_clean : Option ℕ → Bool
@@ -48,6 +44,14 @@ module _ (style : CommentStyle) (text : List ℕ) where
   marks_from at zero = 0
   marks_from at (suc n) = cond (clean at) 1 0 + 2 * marks_from (suc at) n
 
+  -- the flags of a place and of the one behind it
+  abbrev pub near_at : ℕ → Near
+  near_at at = record { one = flags_at at; two = flags_at (at + 1) }
+
+  -- the marks of n places from a place on, with the flags there
+  abbrev pub marked_from : ℕ → ℕ → MarkBits
+  marked_from at n = record { bits = marks_from at n; near = near_at at }
+
   -- a number for each 32 places, up to the text's end
   pub record Marked (marks : List ℕ) : Type 0 where
     pub size : length text / 32 < length marks
@@ -57,7 +61,6 @@ module _ (style : CommentStyle) (text : List ℕ) where
 abbrev pub is_dull : ℕ → Bool
 is_dull b = is_plain b && not (eqb b 92) && not (eqb b 42) && not (is_eol b)
 
--- the bytes from a place on, k of them behind the first, are dull
+-- n bytes from a place on are dull
 abbrev pub dulls : List ℕ → ℕ → ℕ → Bool
-dulls text at zero = is_dull (get_or text at 0)
-dulls text at (suc k) = dulls text at k && is_dull (get_or text (at + suc k) 0)
+dulls text at n = list_all is_dull (take n (drop at text))

@@ -1,25 +1,25 @@
-// The kinds of brackets with their bytes, and the stack of open ones by value, which matching and splitting share.
-ghost use Rattle.std.specs.Prelude.{◌≡◌, true, List, [], ◌∷◌, ℕ, ◌-◌, ◌<◌, length, drop};
-ghost use Rattle.code.specs.Bracket.{opening_of, closing_of, is_opening, is_closing, is_bracket, kind_of, closer, is_empty, top_is, push, close, taken as taken_by, open_of, changed, Shows, Suits};
+// The kinds of brackets with their bytes, and the stack of open ones, which matching and splitting share.
+ghost use Rattle.std.specs.Prelude.{◌≡◌, [], ◌∷◌, drop};
+ghost use Rattle.code.specs.Bracket.{opening_of, closing_of, is_opening, is_closing, is_bracket, kind_of, closer, is_empty, top_is, push, close, taken, outcome};
 
-use crate::{Bracket, Change, OpenBrackets};
+use crate::{Bracket, BracketError, MAX_DEPTH, OpenBrackets};
 
 impl Bracket {
-    pub const ROUND_OPEN: u8 = 40;
+    pub const ROUND_OPEN: u8 = b'(';
 
-    pub const ROUND_CLOSE: u8 = 41;
+    pub const ROUND_CLOSE: u8 = b')';
 
-    pub const SQUARE_OPEN: u8 = 91;
+    pub const SQUARE_OPEN: u8 = b'[';
 
-    pub const SQUARE_CLOSE: u8 = 93;
+    pub const SQUARE_CLOSE: u8 = b']';
 
-    pub const CURLY_OPEN: u8 = 123;
+    pub const CURLY_OPEN: u8 = b'{';
 
-    pub const CURLY_CLOSE: u8 = 125;
+    pub const CURLY_CLOSE: u8 = b'}';
 
-    pub const ANGLE_OPEN: u8 = 60;
+    pub const ANGLE_OPEN: u8 = b'<';
 
-    pub const ANGLE_CLOSE: u8 = 62;
+    pub const ANGLE_CLOSE: u8 = b'>';
 
     pub fn opening(self) -> u8
         ensures { result ≡ opening_of self }
@@ -66,112 +66,103 @@ impl Bracket {
     pub fn opens(b: u8) -> bool
         ensures { result ≡ is_opening b }
     {
-        (b == Bracket::ROUND_OPEN) | (b == Bracket::SQUARE_OPEN) | (b == Bracket::CURLY_OPEN)
+        matches!(
+            b,
+            Bracket::ROUND_OPEN | Bracket::SQUARE_OPEN | Bracket::CURLY_OPEN
+        )
     }
 
     // Whether a byte closes one of the three pairs.
     pub fn closes(b: u8) -> bool
         ensures { result ≡ is_closing b }
     {
-        (b == Bracket::ROUND_CLOSE) | (b == Bracket::SQUARE_CLOSE) | (b == Bracket::CURLY_CLOSE)
+        matches!(
+            b,
+            Bracket::ROUND_CLOSE | Bracket::SQUARE_CLOSE | Bracket::CURLY_CLOSE
+        )
     }
 
     // Whether a byte is of one of the three pairs.
     pub fn is_one(b: u8) -> bool
         ensures { result ≡ is_bracket b }
     {
-        Bracket::opens(b) | Bracket::closes(b)
-    }
-
-    // Whether b closes the innermost of so many open brackets, which inner closes.
-    pub fn is_inner(depth: usize, inner: u8, b: u8) -> bool
-        ensures by_index { (stack : List ℕ) → Shows depth inner stack → top_is b stack ≡ result }
-        ensures depth_nonzero { result ≡ true → 0 < depth }
-    {
-        (0 < depth) & (inner == b)
+        Bracket::opens(b) || Bracket::closes(b)
     }
 }
 
 impl OpenBrackets {
     pub fn new() -> Self
-        ensures { open_of result ≡ [] }
+        ensures { result ≡ [] }
     {
         OpenBrackets {
-            closing: [0; 256],
+            closing: [0; MAX_DEPTH],
             depth: 0,
         }
     }
 
-    pub fn is_empty(self) -> bool
-        ensures { result ≡ is_empty (open_of self) }
+    // One open bracket, which b closes.
+    pub fn one(b: u8) -> Self
+        ensures { result ≡ b ∷ [] }
+    {
+        OpenBrackets {
+            closing: [b; MAX_DEPTH],
+            depth: 1,
+        }
+    }
+
+    pub fn is_empty(&self) -> bool
+        ensures { result ≡ is_empty self.now }
     {
         self.depth == 0
     }
 
-    pub fn push(self, b: u8) -> Self
-        requires { length (open_of self) < 256 }
-        ensures { open_of result ≡ b ∷ open_of self }
+    // Whether b closes the innermost bracket.
+    pub fn is_innermost(&self, b: u8) -> bool
+        ensures { result ≡ top_is b self.now }
     {
-        let mut next = self;
-        let at = next.depth;
-        next.closing[at] = b;
-        next.depth = at + 1;
-        next
+        0 < self.depth && self.closing[self.depth - 1] == b
     }
 
-    pub fn pop(self) -> Self
-        ensures { open_of result ≡ drop 1 (open_of self) }
+    // One more, which b closes.
+    pub fn push(&mut self, b: u8) -> Result<(), BracketError>
+        ensures { outcome result self.new ≡ push b self.old }
     {
-        let mut next = self;
-        let at = next.depth;
-        if 0 < at {
-            next.depth = at - 1;
+        if MAX_DEPTH <= self.depth {
+            return Err(BracketError::Deep);
         }
-        next
-    }
-}
-
-impl Change {
-    // One more, which b closes, beside so many.
-    pub fn opened(depth: usize, b: u8) -> Change
-        ensures by_index { (stack : List ℕ) → length stack ≡ depth → changed result stack ≡ push b stack }
-        ensures suits { Suits depth result }
-    {
-        if depth < 256 {
-            return Change::Push(b);
-        }
-        Change::Deep
+        self.closing[self.depth] = b;
+        self.depth += 1;
+        Ok(())
     }
 
-    // The innermost of so many, which inner closes, is closed by b.
-    pub fn closed(depth: usize, inner: u8, b: u8) -> Change
-        ensures by_index { (stack : List ℕ) → Shows depth inner stack → changed result stack ≡ close b stack }
-        ensures suits { Suits depth result }
+    // The innermost less, if there is one.
+    pub fn pop(&mut self)
+        ensures { self.new ≡ drop 1 self.old }
     {
-        if Bracket::is_inner(depth, inner, b) {
-            return Change::Pop;
+        self.depth = self.depth.saturating_sub(1);
+    }
+
+    // The innermost is closed by b.
+    pub fn close(&mut self, b: u8) -> Result<(), BracketError>
+        ensures { outcome result self.new ≡ close b self.old }
+    {
+        if !self.is_innermost(b) {
+            return Err(BracketError::Wrong);
         }
-        Change::Wrong
+        self.pop();
+        Ok(())
     }
 
     // What a byte of code does, by the three pairs.
-    pub fn taken(depth: usize, inner: u8, b: u8) -> Change
-        ensures by_index { (stack : List ℕ) → Shows depth inner stack → changed result stack ≡ taken_by stack b }
-        ensures suits { Suits depth result }
+    pub fn take(&mut self, b: u8) -> Result<(), BracketError>
+        ensures { outcome result self.new ≡ taken self.old b }
     {
         if Bracket::opens(b) {
-            return Change::opened(depth, Bracket::partner(b));
+            self.push(Bracket::partner(b))
+        } else if Bracket::closes(b) {
+            self.close(b)
+        } else {
+            Ok(())
         }
-        if Bracket::closes(b) {
-            return Change::closed(depth, inner, b);
-        }
-        Change::Keep
     }
-}
-
-// The place of the innermost of so many; 0 where there is none.
-pub fn below(depth: usize) -> usize
-    ensures { result ≡ depth - 1 }
-{
-    if depth == 0 { 0 } else { depth - 1 }
 }

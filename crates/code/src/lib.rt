@@ -7,8 +7,13 @@ pub mod marks;
 pub mod matching;
 pub mod walk;
 
+ghost use Rattle.std.specs.Prelude.{ℕ, ◌≤◌, List};
+ghost use Rattle.code.specs.Bracket.{stacked, max_depth};
+
+use std::marker::Model;
+
 // Which comments are invisible besides block comments, and whose literals: in those of C a backslash hides the byte after it.
-#[derive(Clone, Copy)]
+#[derive(Clone, Copy, Debug, PartialEq, Eq)]
 pub enum CommentStyle {
     // none; literals of C
     Block,
@@ -20,15 +25,8 @@ pub enum CommentStyle {
     FortranBlock,
 }
 
-// Where a literal or comment ends: its last byte stands before a place, or it has no end.
-#[derive(Clone, Copy)]
-pub enum End {
-    Before(usize),
-    Never,
-}
-
 // What a text has at a place: a byte of code, a run of so many invisible bytes, or a literal or comment without an end.
-#[derive(Clone, Copy)]
+#[derive(Clone, Copy, Debug, PartialEq, Eq)]
 pub enum Piece {
     Code,
     Hidden(usize),
@@ -36,16 +34,15 @@ pub enum Piece {
     OpenComment,
 }
 
-// The first literal or comment without an end, with its place.
-#[derive(Clone, Copy)]
+// A literal or comment without an end, with its place.
+#[derive(Clone, Copy, Debug, PartialEq, Eq)]
 pub enum Unclosed {
-    Nothing,
     Quote(usize),
     Comment(usize),
 }
 
 // The kinds of brackets.
-#[derive(Clone, Copy)]
+#[derive(Clone, Copy, Debug, PartialEq, Eq)]
 pub enum Bracket {
     Round,
     Square,
@@ -53,34 +50,41 @@ pub enum Bracket {
     Angle,
 }
 
-// The open brackets: the closing byte of each, the outermost first, and how many they are.
-#[derive(Clone, Copy)]
+// How many brackets may be open at once.
+const MAX_DEPTH: usize = 256;
+
+// The open brackets: the closing byte of each, the outermost first, and how many they are. Seen as the list of these bytes, the innermost first.
+// An array with a depth, as there is no heap; changed in place, as it is too many bytes to copy.
+#[derive(Drop)]
 pub struct OpenBrackets {
-    pub closing: [u8; 256],
-    pub depth: usize,
+    closing: [u8; MAX_DEPTH],
+    depth: usize,
 }
 
-// What a byte of code does to the open brackets: one more, which this byte closes; the innermost less; none; it closes none that it could; it is
-// the 257th.
-#[derive(Clone, Copy)]
-pub enum Change {
-    Push(u8),
-    Pop,
-    Keep,
+impl Model for OpenBrackets {
+    ghost Value = { List ℕ };
+
+    ghost view = { λ o. stacked o.closing o.depth };
+
+    ghost invariant = { λ o. o.depth ≤ max_depth };
+}
+
+// Why a bracket cannot be taken: it closes none that it could, or it is the 257th open one.
+#[derive(Clone, Copy, Debug, PartialEq, Eq)]
+pub enum BracketError {
     Wrong,
     Deep,
 }
 
-// Where an open parenthesis is closed: at a place, nowhere, or not found before the 257th bracket is open, at its place.
-#[derive(Clone, Copy)]
-pub enum Match {
-    ClosedAt(usize),
+// Why no place closes a parenthesis: nothing does, or the 257th bracket is open before, at this place.
+#[derive(Clone, Copy, Debug, PartialEq, Eq)]
+pub enum NoMatch {
     Unmatched,
     DeepAt(usize),
 }
 
 // Whether nothing is unclosed from a place on, if the place stands in code, inside a literal in `'` or in `"`, in a block comment, in a line comment.
-#[derive(Clone, Copy)]
+#[derive(Clone, Copy, Debug, PartialEq, Eq)]
 pub struct Flags {
     pub code: bool,
     pub single: bool,
@@ -89,10 +93,16 @@ pub struct Flags {
     pub line: bool,
 }
 
-// The marks of some places, the first in the lowest bit, with the flags of the first place and of the second.
-#[derive(Clone, Copy)]
-pub struct MarkBits {
-    pub bits: u32,
+// The flags of a place and of the one behind it.
+#[derive(Clone, Copy, Debug, PartialEq, Eq)]
+pub struct Near {
     pub one: Flags,
     pub two: Flags,
+}
+
+// The marks of some places, the first in the lowest bit, with the flags at the first place.
+#[derive(Clone, Copy, Debug, PartialEq, Eq)]
+pub struct MarkBits {
+    pub bits: u32,
+    pub near: Near,
 }

@@ -1,99 +1,98 @@
 // The marks of a text: from which of its places on no literal or comment is unclosed, found in one walk from its back.
-ghost use Rattle.std.specs.Prelude.{◌≡◌, true, cond, ◌+◌, ◌/◌, ◌<◌, ◌≤◌, length, get_or};
-ghost use Rattle.code.specs.Marks.{clean, quote_clean, block_clean, line_clean, past_end, flags_at, marks_from, Marked, is_dull, dulls};
+ghost use Rattle.std.specs.Prelude.{◌≡◌, true, cond, ◌+◌, ◌/◌, ◌<◌, ◌≤◌, ◌⊎◌, length, eqb, get_or};
+ghost use Rattle.code.specs.Marks.{clean, quote_clean, block_clean, line_clean, past_end, flags_at, near_at, marked_from, Marked, is_dull, dulls};
 
-use crate::{CommentStyle, Flags, MarkBits, code};
+use crate::{CommentStyle, Flags, MarkBits, Near, code};
 
-// Inside a literal in q, by the flags of the next two places.
-fn in_quote(
-    text: &[u8],
-    at: usize,
-    q: u8,
-    style: CommentStyle,
-    over: bool,
-    one: bool,
-    two: bool,
-) -> bool
-    requires { (at < length text.now) × ((over ≡ clean style text.now (at + 1)) × ((one ≡ quote_clean style text.now q (at + 1)) × (two ≡ quote_clean style text.now q (at + 2)))) }
+impl Flags {
+    // Inside a literal in q.
+    fn literal(self, q: u8) -> bool
+        ensures { result ≡ cond (eqb q 39) self.single self.double }
+    {
+        if q == b'\'' { self.single } else { self.double }
+    }
+}
+
+// Inside a literal in q.
+fn in_quote(text: &[u8], at: usize, q: u8, style: CommentStyle, near: Near) -> bool
+    requires at_in_bounds { (at < length text.now) × ((q ≡ 39) ⊎ (q ≡ 34)) }
+    requires near_value { near ≡ near_at style text.now (at + 1) }
     ensures { result ≡ quote_clean style text.now q at }
 {
     if code::hides_next(text, at, q, style) {
-        return two;
+        near.two.literal(q)
+    } else if text[at] == q {
+        near.one.code
+    } else {
+        near.one.literal(q)
     }
-    if text[at] == q { over } else { one }
 }
 
 // Inside a block comment.
-fn in_block(text: &[u8], at: usize, style: CommentStyle, over: bool, one: bool) -> bool
-    requires { (at < length text.now) × ((over ≡ clean style text.now (at + 2)) × (one ≡ block_clean style text.now (at + 1))) }
+fn in_block(text: &[u8], at: usize, style: CommentStyle, near: Near) -> bool
+    requires at_in_bounds { at < length text.now }
+    requires near_value { near ≡ near_at style text.now (at + 1) }
     ensures { result ≡ block_clean style text.now at }
 {
-    let b = text[at];
-    let next = ascii::byte_at(text, at + 1);
-    if (b == 42) & (next == 47) { over } else { one }
+    if text[at] == b'*' && ascii::byte_at(text, at + 1) == b'/' {
+        near.two.code
+    } else {
+        near.one.block
+    }
 }
 
 // Inside a line comment.
-fn in_line(text: &[u8], at: usize, style: CommentStyle, over: bool, one: bool) -> bool
-    requires { (at < length text.now) × ((over ≡ clean style text.now (at + 1)) × (one ≡ line_clean style text.now (at + 1))) }
+fn in_line(text: &[u8], at: usize, style: CommentStyle, near: Near) -> bool
+    requires at_in_bounds { at < length text.now }
+    requires near_value { near ≡ near_at style text.now (at + 1) }
     ensures { result ≡ line_clean style text.now at }
 {
     if ascii::class::is_eol(text[at]) {
-        over
+        near.one.code
     } else {
-        one
+        near.one.line
     }
 }
 
 // In code, at a slash.
-fn at_slash(text: &[u8], at: usize, style: CommentStyle, one: Flags, two: Flags) -> bool
+fn at_slash(text: &[u8], at: usize, style: CommentStyle, near: Near) -> bool
     requires at_in_bounds { (at < length text.now) × (get_or text.now at 0 ≡ 47) }
-    requires one_value { (one ≡ flags_at style text.now (at + 1)) × (two ≡ flags_at style text.now (at + 2)) }
+    requires near_value { near ≡ near_at style text.now (at + 1) }
     ensures { result ≡ clean style text.now at }
 {
-    let next = ascii::byte_at(text, at + 1);
-    if next == 42 {
-        return two.block;
+    match ascii::byte_at(text, at + 1) {
+        b'*' => near.two.block,
+        b'/' if style.is_c_like() => near.two.line,
+        _ => near.one.code,
     }
-    if code::is_c_like(style) & (next == 47) {
-        return two.line;
-    }
-    one.code
 }
 
 // In code, at an exclamation mark.
-fn at_bang(text: &[u8], at: usize, style: CommentStyle, one: Flags) -> bool
+fn at_bang(text: &[u8], at: usize, style: CommentStyle, near: Near) -> bool
     requires at_in_bounds { (at < length text.now) × (get_or text.now at 0 ≡ 33) }
-    requires one_value { one ≡ flags_at style text.now (at + 1) }
+    requires near_value { near ≡ near_at style text.now (at + 1) }
     ensures { result ≡ clean style text.now at }
 {
-    let next = ascii::byte_at(text, at + 1);
-    if code::is_fortran(style) & !(next == 36) {
-        return one.line;
+    if style.is_fortran() && ascii::byte_at(text, at + 1) != b'$' {
+        near.one.line
+    } else {
+        near.one.code
     }
-    one.code
 }
 
 // In code.
-fn in_code(text: &[u8], at: usize, style: CommentStyle, one: Flags, two: Flags) -> bool
+fn in_code(text: &[u8], at: usize, style: CommentStyle, near: Near) -> bool
     requires at_in_bounds { at < length text.now }
-    requires one_value { (one ≡ flags_at style text.now (at + 1)) × (two ≡ flags_at style text.now (at + 2)) }
+    requires near_value { near ≡ near_at style text.now (at + 1) }
     ensures { result ≡ clean style text.now at }
 {
-    let b = text[at];
-    if code::is_plain(b) {
-        return one.code;
+    match text[at] {
+        b'\'' => near.one.single,
+        b'"' => near.one.double,
+        b'/' => at_slash(text, at, style, near),
+        b'!' => at_bang(text, at, style, near),
+        _ => near.one.code,
     }
-    if b == 39 {
-        return one.single;
-    }
-    if b == 34 {
-        return one.double;
-    }
-    if b == 47 {
-        return at_slash(text, at, style, one, two);
-    }
-    at_bang(text, at, style, one)
 }
 
 // The flags behind a text: nothing is unclosed but what is open already.
@@ -113,137 +112,106 @@ fn past_end() -> Flags
 fn is_dull(b: u8) -> bool
     ensures { result ≡ is_dull b }
 {
-    code::is_plain(b) & (b != 92) & (b != 42) & !((b == 10) | (b == 13))
+    !matches!(b, b'\'' | b'"' | b'/' | b'!' | b'\\' | b'*' | b'\n' | b'\r')
 }
 
 // The flags of a place by those of the next two. Most bytes change none.
-fn flags_at(text: &[u8], at: usize, style: CommentStyle, one: Flags, two: Flags) -> Flags
-    requires { (one ≡ flags_at style text.now (at + 1)) × (two ≡ flags_at style text.now (at + 2)) }
+fn flags_at(text: &[u8], at: usize, style: CommentStyle, near: Near) -> Flags
+    requires { near ≡ near_at style text.now (at + 1) }
     ensures { result ≡ flags_at style text.now at }
 {
     if text.len() <= at {
         return past_end();
     }
     if is_dull(text[at]) {
-        return one;
+        return near.one;
     }
     Flags {
-        code: in_code(text, at, style, one, two),
-        single: in_quote(text, at, 39, style, one.code, one.single, two.single),
-        double: in_quote(text, at, 34, style, one.code, one.double, two.double),
-        block: in_block(text, at, style, two.code, one.block),
-        line: in_line(text, at, style, one.code, one.line),
+        code: in_code(text, at, style, near),
+        single: in_quote(text, at, b'\'', style, near),
+        double: in_quote(text, at, b'"', style, near),
+        block: in_block(text, at, style, near),
+        line: in_line(text, at, style, near),
     }
 }
 
-fn bit(b: bool) -> u64
-    ensures { (result ≡ cond b 1 0) × (result ≤ 1) }
-{
-    if b { 1 } else { 0 }
-}
-
-// Whether eight bytes from a place on do not, in one expression.
+// Whether eight bytes from a place on do not.
 fn is_dull_eight(text: &[u8], at: usize) -> bool
     requires { at + 8 ≤ length text.now }
-    ensures { result ≡ dulls text.now at 7 }
+    ensures { result ≡ dulls text.now at 8 }
 {
-    is_dull(text[at])
-        & is_dull(text[at + 1])
-        & is_dull(text[at + 2])
-        & is_dull(text[at + 3])
-        & is_dull(text[at + 4])
-        & is_dull(text[at + 5])
-        & is_dull(text[at + 6])
-        & is_dull(text[at + 7])
+    text[at..at + 8].iter().all(|b| is_dull(*b))
 }
 
 // The marks of eight places before a place whose flags are given, if none of the eight bytes changes them.
-fn dull_octet(text: &[u8], at: usize, style: CommentStyle, one: Flags) -> MarkBits
-    requires at_in_bounds { (at + 8 ≤ length text.now) × (dulls text.now at 7 ≡ true) }
-    requires one_value { one ≡ flags_at style text.now (at + 8) }
-    ensures { (result.bits ≡ marks_from style text.now at 8) × ((result.one ≡ flags_at style text.now at) × (result.two ≡ flags_at style text.now (at + 1))) }
+fn dull_octet(text: &[u8], at: usize, style: CommentStyle, near: Near) -> MarkBits
+    requires at_in_bounds { (at + 8 ≤ length text.now) × (dulls text.now at 8 ≡ true) }
+    requires near_value { near ≡ near_at style text.now (at + 8) }
+    ensures { result ≡ marked_from style text.now at 8 }
 {
-    if one.code {
-        return MarkBits {
-            bits: 255,
-            one,
-            two: one,
-        };
-    }
     MarkBits {
-        bits: 0,
-        one,
-        two: one,
+        bits: if near.one.code { 255 } else { 0 },
+        near: Near {
+            one: near.one,
+            two: near.one,
+        },
     }
 }
 
 // The marks of eight places from a place on, one by one.
-fn mixed_octet(text: &[u8], at: usize, style: CommentStyle, one: Flags, two: Flags) -> MarkBits
+fn mixed_octet(text: &[u8], at: usize, style: CommentStyle, near: Near) -> MarkBits
     requires at_bound { at ≤ 16408 }
-    requires one_value { (one ≡ flags_at style text.now (at + 8)) × (two ≡ flags_at style text.now (at + 9)) }
-    ensures { (result.bits ≡ marks_from style text.now at 8) × ((result.one ≡ flags_at style text.now at) × (result.two ≡ flags_at style text.now (at + 1))) }
+    requires near_value { near ≡ near_at style text.now (at + 8) }
+    ensures { result ≡ marked_from style text.now at 8 }
 {
-    let mut near = one;
-    let mut far = two;
-    let mut bits: u64 = 0;
-    let mut k = 8;
-    while 0 < k {
-        k -= 1;
-        let here = flags_at(text, at + k, style, near, far);
-        far = near;
-        near = here;
-        bits = bits * 2 + bit(here.code);
+    let mut near = near;
+    let mut bits = 0;
+    for k in (0..8).rev() {
+        let here = flags_at(text, at + k, style, near);
+        near = Near {
+            one: here,
+            two: near.one,
+        };
+        bits = bits * 2 + u32::from(here.code);
     }
-    MarkBits {
-        bits: bits as u32,
-        one: near,
-        two: far,
-    }
+    MarkBits { bits, near }
 }
 
 // The marks of eight places from a place on.
-fn octet(text: &[u8], at: usize, style: CommentStyle, one: Flags, two: Flags) -> MarkBits
+fn octet(text: &[u8], at: usize, style: CommentStyle, near: Near) -> MarkBits
     requires at_bound { at ≤ 16408 }
-    requires one_value { (one ≡ flags_at style text.now (at + 8)) × (two ≡ flags_at style text.now (at + 9)) }
-    ensures { (result.bits ≡ marks_from style text.now at 8) × ((result.one ≡ flags_at style text.now at) × (result.two ≡ flags_at style text.now (at + 1))) }
+    requires near_value { near ≡ near_at style text.now (at + 8) }
+    ensures { result ≡ marked_from style text.now at 8 }
 {
     if text.len() <= at {
         return MarkBits {
             bits: 255,
-            one,
-            two: one,
+            near: Near {
+                one: near.one,
+                two: near.one,
+            },
         };
     }
-    if at + 8 <= text.len() {
-        if is_dull_eight(text, at) {
-            return dull_octet(text, at, style, one);
-        }
+    if at + 8 <= text.len() && is_dull_eight(text, at) {
+        return dull_octet(text, at, style, near);
     }
-    mixed_octet(text, at, style, one, two)
+    mixed_octet(text, at, style, near)
 }
 
 // The marks of 32 places from a place on, eight by eight.
-fn cell(text: &[u8], at: usize, style: CommentStyle, one: Flags, two: Flags) -> MarkBits
+fn cell(text: &[u8], at: usize, style: CommentStyle, near: Near) -> MarkBits
     requires at_bound { at ≤ 16384 }
-    requires one_value { (one ≡ flags_at style text.now (at + 32)) × (two ≡ flags_at style text.now (at + 33)) }
-    ensures { (result.bits ≡ marks_from style text.now at 32) × ((result.one ≡ flags_at style text.now at) × (result.two ≡ flags_at style text.now (at + 1))) }
+    requires near_value { near ≡ near_at style text.now (at + 32) }
+    ensures { result ≡ marked_from style text.now at 32 }
 {
-    let mut near = one;
-    let mut far = two;
-    let mut bits: u64 = 0;
-    let mut k = 4;
-    while 0 < k {
-        k -= 1;
-        let o = octet(text, at + 8 * k, style, near, far);
-        near = o.one;
-        far = o.two;
-        bits = bits * 256 + (o.bits as u64);
+    let mut near = near;
+    let mut bits = 0;
+    for k in (0..4).rev() {
+        let eight = octet(text, at + 8 * k, style, near);
+        near = eight.near;
+        bits = bits * 256 + eight.bits;
     }
-    MarkBits {
-        bits: bits as u32,
-        one: near,
-        two: far,
-    }
+    MarkBits { bits, near }
 }
 
 // The marks of a text, of 32 places in each number.
@@ -251,17 +219,12 @@ pub fn fill(text: &[u8], style: CommentStyle, marks: &mut [u32])
     requires { (length text.now ≤ 16384) × (length text.now / 32 < length marks.old) }
     ensures { Marked style text.now marks.new }
 {
-    let mut one = past_end();
-    let mut two = one;
-    let mut k = text.len() / 32 + 1;
-    while 0 < k {
-        k -= 1;
-        let c = cell(text, 32 * k, style, one, two);
-        let near = c.one;
-        let far = c.two;
-        marks[k] = c.bits;
-        one = near;
-        two = far;
+    let end = past_end();
+    let mut near = Near { one: end, two: end };
+    for k in (0..text.len() / 32 + 1).rev() {
+        let marked = cell(text, 32 * k, style, near);
+        marks[k] = marked.bits;
+        near = marked.near;
     }
 }
 
@@ -270,6 +233,5 @@ pub fn is_clean(text: &[u8], style: CommentStyle, marks: &[u32], at: usize) -> b
     requires { (at ≤ length text.now) × Marked style text.now marks.now }
     ensures { result ≡ clean style text.now at }
 {
-    let bits = marks[at / 32] as u64;
-    (bits >> (at % 32)) % 2 == 1
+    (marks[at / 32] >> (at % 32)) % 2 == 1
 }
