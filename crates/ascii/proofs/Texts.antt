@@ -9,7 +9,7 @@ use native.Mathlib.Nat.{add-zero, zero-add}
 use native.Mathlib.Numerals.{add-one}
 use native.Mathlib.Omega.{arith}
 use lib.ListN.{length, take, drop, get_or, length-reverse, length-drop, drop_of_length-le}
-use lib.Seq.{drop-cons, take-suc, split_at, append_snoc}
+use lib.Seq.{drop-cons, split_at, append_snoc}
 use lib.Dec.{eqb, ltb}
 use Rattle.std.specs.List.{prefix_len}
 use Rattle.std.proofs.lemmas.List.Sums.{prefix_len_is, suffix_len_is}

@@ -2,7 +2,7 @@
 -- Assumes nothing.
 use mathlib.Core.Path.{◌≡◌, refl, sym}
 use mathlib.Core.Bool.{Bool, true, false, cond}
-use Rattle.std.specs.Prelude.{Option, Some, None}
+use Rattle.std.specs.Prelude.{Option, Some, None, Err}
 use mathlib.Core.List.{List}
 use Prim.Native.Nat.{ℕ, ◌≤◌}
 use native.Mathlib.Omega.{arith}
@@ -11,10 +11,9 @@ use lib.Dec.{ltb}
 use borrow.Author.Tests.{ltb-false}
 use Rattle.ascii.specs.Text.{first_high}
 use Rattle.refusal.specs.declared.Refusal.{Refusal}
-use Rattle.refusal.specs.declared.Verdict.TheVariants.{Fine, Bad}
 use Rattle.refusal.specs.declared.Reason.TheVariants.{TooLong, HighByte}
 use Rattle.refusal.specs.Answer.{Answer, refused, refused_by, unless_fault, admitted, max_length}
-use Rattle.refusal.specs.Verdict.{fault_by, text_verdict, or_refused}
+use Rattle.refusal.specs.Verdict.{fault_by, fine, refusal_at, text_verdict, or_refused}
 
 fault-refused : {A : Type 0} (o : Option ℕ) (a : Answer A) → or_refused (fault_by HighByte o) a ≡ unless_fault 2 o a
 fault-refused None a = refl
@@ -25,24 +24,24 @@ pub admits : {A : Type 0} (xs : List ℕ) (a : Answer A) → or_refused (text_ve
 unfolding text_verdict
 admits xs a = go (ltb max_length (length xs))
   where
-    go : (b : Bool) → or_refused (cond b (Bad (record { reason = TooLong; place = max_length })) (fault_by HighByte (first_high 0 xs))) a
+    go : (b : Bool) → or_refused (cond b (Err (refusal_at TooLong max_length)) (fault_by HighByte (first_high 0 xs))) a
         ≡ cond b (refused 1 max_length) (unless_fault 2 (first_high 0 xs) a)
     go true = refl
     go false = fault-refused (first_high 0 xs) a
 
 -- so in the arms of a match on the verdict
-pub admits-fine : {A : Type 0} (xs : List ℕ) (a : Answer A) → text_verdict xs ≡ Fine → admitted xs a ≡ a
+pub admits-fine : {A : Type 0} (xs : List ℕ) (a : Answer A) → text_verdict xs ≡ fine → admitted xs a ≡ a
 admits-fine xs a e = rw e at (sym (admits xs a))
 
-pub admits-bad : {A : Type 0} (xs : List ℕ) (a : Answer A) (r : Refusal) → text_verdict xs ≡ Bad r → admitted xs a ≡ refused_by r
+pub admits-bad : {A : Type 0} (xs : List ℕ) (a : Answer A) (r : Refusal) → text_verdict xs ≡ Err r → admitted xs a ≡ refused_by r
 admits-bad xs a r e = rw e at (sym (admits xs a))
 
 -- a text that is admitted is not too long
-pub admits-length : (xs : List ℕ) → text_verdict xs ≡ Fine → length xs ≤ max_length
+pub admits-length : (xs : List ℕ) → text_verdict xs ≡ fine → length xs ≤ max_length
 unfolding text_verdict
 admits-length xs e = go (ltb max_length (length xs)) refl e
   where
-    go : (b : Bool) → ltb max_length (length xs) ≡ b → cond b (Bad (record { reason = TooLong; place = max_length })) (fault_by HighByte (first_high 0 xs)) ≡ Fine
+    go : (b : Bool) → ltb max_length (length xs) ≡ b → cond b (Err (refusal_at TooLong max_length)) (fault_by HighByte (first_high 0 xs)) ≡ fine
         → length xs ≤ max_length
     go true h e = let z : ◌≡◌ {A = ℕ} 0 1 = cc in absurd (omega arith)
     go false h e = ltb-false max_length (length xs) h

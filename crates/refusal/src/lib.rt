@@ -99,14 +99,15 @@ impl From<Reason> for u8 {
 pub const MAX_LENGTH: usize = 16384;
 
 // Refusals 1 and 2: the length of a text, and its first byte above 127.
+#[tactic(auto, unfolding(crate::specs::Verdict::text_verdict))]
 pub fn check_text(text: &[u8]) -> Result<(), Refusal>
     ensures { result ≡ text_verdict text.now }
 {
     if MAX_LENGTH < text.len() {
         return Err(Reason::TooLong.at(MAX_LENGTH));
     }
-    match ascii::first_high(text) {
-        None => Ok(()),
-        Some(place) => Err(Reason::HighByte.at(place)),
+    if let Some(place) = ascii::first_high(text) {
+        return Err(Reason::HighByte.at(place));
     }
+    Ok(())
 }

@@ -1,5 +1,5 @@
 -- `position` finds the first byte that is not of the set, which is where the run ends.
-use Rattle.std.proofs.Common.{◌≡◌, ◌+◌, rules, arith, drop, length}
+use Rattle.std.proofs.Common.{◌≡◌, rules, arith, drop, length}
 use Rattle.std.proofs.lemmas.List.{take_rest}
 use Rattle.ascii.specs.Text.{leading}
 use Rattle.ascii.proofs.Texts.{leading_is}
