@@ -9,7 +9,8 @@ use std::marker::Model;
 // is of a word.
 const MAX_LENGTH: usize = 512;
 
-// A buffer with its length: no heap.
+// A buffer with its length, for there is no heap.
+#[derive(Drop)]
 pub struct Candidate {
     bytes: [u8; 512],
     len: usize,
