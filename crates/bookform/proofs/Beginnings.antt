@@ -2,7 +2,7 @@
 -- Assumes nothing.
 use mathlib.Core.Path.{◌≡◌, refl, sym, ◌∙◌}
 use mathlib.Core.Bool.{Bool, true}
-use Rattle.std.specs.Prelude.{Some, None}
+use Rattle.std.specs.Prelude.{Option, Some, None}
 use mathlib.Core.List.{List, [], ◌∷◌, ◌++◌}
 use Prim.Native.Nat.{ℕ, zero, suc, ◌+◌, ◌<◌, ◌≤◌}
 use native.Mathlib.Nat.{zero-add}
@@ -15,8 +15,6 @@ use Rattle.ascii.proofs.Flags.{by_cases}
 use borrow.Author.Tests.{ltb-true, ltb-false}
 use Rattle.bookform.specs.declared.Expect.{Expect}
 use Rattle.bookform.specs.declared.Expect.TheVariants.{HeaderByte, ClauseCount, DirectiveLength, DirectiveName, Rule, ClauseLength, ClauseName, End}
-use Rattle.bookform.specs.declared.Step.{Step}
-use Rattle.bookform.specs.declared.Step.TheVariants.{Next, Bad}
 use Rattle.bookform.specs.Format.{is_header, clauses_left, directives_left, stepped, ended_at, bad_from}
 use Rattle.bookform.specs.Grammar.{are_bytes, BadByteIsFirst}
 use Rattle.bookform.proofs.Steps.{never}
@@ -119,9 +117,9 @@ ranged [] e at i h = let q = ended e h in omega arith
     ended End h = never i (sym h)
 ranged (b ∷ bs) e at i h = go (stepped e b) refl (λ n. ranged bs n (suc at) i)
   where
-    go : (s : Step) → stepped e b ≡ s → ((n : Expect) → bad_from n (suc at) bs ≡ Some i → (suc at ≤ i) × (i ≤ suc at + length bs)) → (at ≤ i) × (i ≤ at + suc (length bs))
-    go Bad q ih = let z : Some at ≡ Some i = rw (bad_from, q) at h in let y : at ≡ i = cc in omega arith
-    go (Next n) q ih = omega (arith, ih n (rw (bad_from, q) at h))
+    go : (s : Option Expect) → stepped e b ≡ s → ((n : Expect) → bad_from n (suc at) bs ≡ Some i → (suc at ≤ i) × (i ≤ suc at + length bs)) → (at ≤ i) × (i ≤ at + suc (length bs))
+    go None q ih = let z : Some at ≡ Some i = rw (bad_from, q) at h in let y : at ≡ i = cc in omega arith
+    go (Some n) q ih = omega (arith, ih n (rw (bad_from, q) at h))
 
 -- the bytes up to and with the bad one have the same fault, whatever follows
 stops : (bs rest : List ℕ) (e : Expect) (at k : ℕ) → bad_from e at bs ≡ Some (at + k) → k < length bs → bad_from e at (take (suc k) bs ++ rest) ≡ Some (at + k)
@@ -129,12 +127,12 @@ unfolding bad_from
 stops [] rest e at k h l = absurd (omega arith)
 stops (b ∷ bs) rest e at k h l = go (stepped e b) refl k h l (λ n j. stops bs rest n (suc at) j)
   where
-    go : (s : Step) → stepped e b ≡ s → (k : ℕ) → bad_from e at (b ∷ bs) ≡ Some (at + k) → k < suc (length bs)
+    go : (s : Option Expect) → stepped e b ≡ s → (k : ℕ) → bad_from e at (b ∷ bs) ≡ Some (at + k) → k < suc (length bs)
         → ((n : Expect) (j : ℕ) → bad_from n (suc at) bs ≡ Some (suc at + j) → j < length bs → bad_from n (suc at) (take (suc j) bs ++ rest) ≡ Some (suc at + j))
         → bad_from e at (b ∷ take k bs ++ rest) ≡ Some (at + k)
-    go Bad q k h l ih = rw (bad_from, q) (rw (bad_from, q) at h)
-    go (Next n) q zero h l ih = absurd (omega (arith, ranged bs n (suc at) (at + 0) (rw (bad_from, q) at h)))
-    go (Next n) q (suc k) h l ih =
+    go None q k h l ih = rw (bad_from, q) (rw (bad_from, q) at h)
+    go (Some n) q zero h l ih = absurd (omega (arith, ranged bs n (suc at) (at + 0) (rw (bad_from, q) at h)))
+    go (Some n) q (suc k) h l ih =
         let p : at + suc k ≡ suc at + k = omega arith in
         rw (bad_from, q, p) (ih n k (rw (bad_from, q, p) at h) (omega arith))
 
@@ -145,10 +143,10 @@ begun bs e at i zero h l = ends e at
 begun [] e at i (suc k) h l = ends e at
 begun (b ∷ bs) e at i (suc k) h l = go (stepped e b) refl (λ n g. begun bs n (suc at) i k g (omega arith))
   where
-    go : (s : Step) → stepped e b ≡ s → ((n : Expect) → bad_from n (suc at) bs ≡ Some i → (rest : List ℕ) × (bad_from n (suc at) (take k bs ++ rest) ≡ None) × (are_bytes rest ≡ true))
+    go : (s : Option Expect) → stepped e b ≡ s → ((n : Expect) → bad_from n (suc at) bs ≡ Some i → (rest : List ℕ) × (bad_from n (suc at) (take k bs ++ rest) ≡ None) × (are_bytes rest ≡ true))
         → (rest : List ℕ) × (bad_from e at (b ∷ take k bs ++ rest) ≡ None) × (are_bytes rest ≡ true)
-    go Bad q ih = let z : Some at ≡ Some i = rw (bad_from, q) at h in let y : at ≡ i = cc in absurd (omega arith)
-    go (Next n) q ih = let (r, g, y) = ih n (rw (bad_from, q) at h) in (r, rw (bad_from, q) g, y)
+    go None q ih = let z : Some at ≡ Some i = rw (bad_from, q) at h in let y : at ≡ i = cc in absurd (omega arith)
+    go (Some n) q ih = let (r, g, y) = ih n (rw (bad_from, q) at h) in (r, rw (bad_from, q) g, y)
 
 pub bad-byte-is-first : BadByteIsFirst
 bad-byte-is-first bs i h =

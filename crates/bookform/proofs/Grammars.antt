@@ -2,7 +2,7 @@
 -- what is put together so is read without a fault. Assumes nothing.
 use mathlib.Core.Path.{◌≡◌, refl, sym, ap, ◌∙◌}
 use mathlib.Core.Bool.{Bool, true, false, cond, ◌&&◌, ◌||◌}
-use Rattle.std.specs.Prelude.{Some, None}
+use Rattle.std.specs.Prelude.{Option, Some, None}
 use mathlib.Core.List.{List, [], ◌∷◌, ◌++◌, append_assoc}
 use Prim.Native.Nat.{ℕ, zero, suc, ◌+◌, ◌-◌, ◌<◌, ◌≤◌}
 use native.Mathlib.Omega.{arith}
@@ -14,8 +14,6 @@ use Rattle.ascii.specs.Text.{bytes, leading}
 use Rattle.ascii.proofs.Flags.{by_cases, and_left, and_right}
 use Rattle.bookform.specs.declared.Expect.{Expect}
 use Rattle.bookform.specs.declared.Expect.TheVariants.{HeaderByte, ClauseCount, DirectiveLength, DirectiveName, Rule, ClauseLength, ClauseName}
-use Rattle.bookform.specs.declared.Step.{Step}
-use Rattle.bookform.specs.declared.Step.TheVariants.{Next, Bad}
 use Rattle.bookform.specs.Format.{rule_for, is_known, is_header, is_length, clauses_left, directives_left, stepped, ended_at, bad_from, HasForm}
 use Rattle.bookform.specs.Grammar.{IsWord, IsWords, last, then, Clauses, clause, Entries, clauses, directive, IsBook, FormIsBook}
 use Rattle.bookform.specs.Grammar as G
@@ -142,7 +140,7 @@ record Byte (e : Expect) (at : ℕ) (bs : List ℕ) : Type 0 where
   more : List ℕ
   is : bs ≡ b ∷ more
   next : Expect
-  leads : stepped e b ≡ Next next
+  leads : stepped e b ≡ Some next
   fine : bad_from next (suc at) more ≡ None
 
 byte : (e : Expect) (at : ℕ) (bs : List ℕ) → ended_at e at ≡ Some at → bad_from e at bs ≡ None → Byte e at bs
@@ -150,9 +148,9 @@ unfolding bad_from
 byte e at [] w h = never at (sym w ∙ h)
 byte e at (b ∷ bs) w h = go (stepped e b) refl
   where
-    go : (s : Step) → stepped e b ≡ s → Byte e at (b ∷ bs)
-    go (Next n) q = record { b = b; more = bs; is = refl; next = n; leads = q; fine = rw (bad_from, q) at h }
-    go Bad q = never at (rw (bad_from, q) at h)
+    go : (s : Option Expect) → stepped e b ≡ s → Byte e at (b ∷ bs)
+    go (Some n) q = record { b = b; more = bs; is = refl; next = n; leads = q; fine = rw (bad_from, q) at h }
+    go None q = never at (rw (bad_from, q) at h)
 
 -- n bytes with a property, after which a state has no fault ahead
 record Bytes (P : List ℕ → Type 0) (e : Expect) (n : ℕ) (bs : List ℕ) : Type 0 where
@@ -290,7 +288,7 @@ headed b0 b1 b2 b3 b4 bs m0 m1 m2 m3 m4 e0 e1 e2 e3 e4 q0 q1 q2 q3 q4 = rw (e0, 
 counted : (b5 b6 b7 b8 : ℕ) (m4 m5 m6 m7 m8 : List ℕ) → m4 ≡ b5 ∷ m5 → m5 ≡ b6 ∷ m6 → m6 ≡ b7 ∷ m7 → m7 ≡ b8 ∷ m8 → m4 ≡ b5 ∷ b6 ∷ b7 ∷ b8 ∷ m8
 counted b5 b6 b7 b8 m4 m5 m6 m7 m8 e5 e6 e7 e8 = rw (e5, e6, e7, e8)
 
-next-is : (e n : Expect) → Next e ≡ Next n → n ≡ e
+next-is : (e n : Expect) → Some e ≡ Some n → n ≡ e
 next-is e n h = cc
 
 book-read : (bs : List ℕ) → HasForm bs → IsBook bs

@@ -9,11 +9,11 @@ use native.Mathlib.Omega.{arith}
 use lib.ListN.{length, drop, get_or}
 use lib.Dec.{eqb, ltb}
 use borrow.Author.Tests.{ltb-true, ltb-false}
+use Rattle.std.specs.Prelude.{Some}
 use Rattle.ascii.specs.Ascii.{is_word, is_digit, is_letter}
 use Rattle.ascii.proofs.Flags.{by_cases, and_left, and_right}
 use Rattle.bookform.specs.declared.Expect.{Expect}
 use Rattle.bookform.specs.declared.Expect.TheVariants.{DirectiveLength, DirectiveName, Rule, ClauseLength, ClauseName}
-use Rattle.bookform.specs.declared.Step.TheVariants.{Next}
 use Rattle.bookform.specs.Format.{stepped, rule_for, is_known, clauses_left, directives_left, bad_from}
 use Rattle.bookform.specs.Standing.{stands, is_of_name, stands_behind, Standing, IsName, NameEnds, Passed}
 use Rattle.bookform.proofs.Steps.{at_least, bad-later}
@@ -99,8 +99,8 @@ word_of w b h = go (is_digit b || is_letter b) (eqb b 95) w h
 
 -- Names of both kinds. A state of its own is waited for at each byte, by how many come after it and whether the one before is of a word.
 record Reads (between : ℕ) (state : ℕ → Bool → Expect) (behind : Expect) : Type 0 where
-  goes : (k : ℕ) (w : Bool) (b : ℕ) → (is_word b || eqb b between && w) ≡ true → stepped (state (suc k) w) b ≡ Next (state k (is_word b))
-  ends : (w : Bool) (b : ℕ) → is_word b ≡ true → stepped (state zero w) b ≡ Next behind
+  goes : (k : ℕ) (w : Bool) (b : ℕ) → (is_word b || eqb b between && w) ≡ true → stepped (state (suc k) w) b ≡ Some (state k (is_word b))
+  ends : (w : Bool) (b : ℕ) → is_word b ≡ true → stepped (state zero w) b ≡ Some behind
 
 directive-reads : (d c : ℕ) → Reads 32 (λ k w. DirectiveName k w d c) (directives_left d c)
 directive-reads d c = record { goes = λ k w b t. rw t; ends = λ w b t. rw t }

@@ -15,14 +15,13 @@ use Rattle.ascii.specs.Ascii.{is_word}
 use Rattle.ascii.proofs.Flags.{and_left}
 use Rattle.bookform.specs.declared.Expect.{Expect}
 use Rattle.bookform.specs.declared.Expect.TheVariants.{DirectiveLength, DirectiveName, Rule, ClauseName}
-use Rattle.bookform.specs.declared.Step.TheVariants.{Next, Bad}
 use Rattle.bookform.specs.Format.{is_length, clauses_left, directives_left, when_good, name_step, word_step, stepped, ended_at, bad_from}
 
 -- what cannot be, and what a good byte leads to
 pub never : {X : Type 0} (p : ℕ) → ◌≡◌ {A = Option ℕ} (Some p) None → X
 never p e = let z : ◌≡◌ {A = ℕ} 0 1 = cc in absurd (omega arith)
 
-pub when-next : (b : Bool) (e next : Expect) → when_good b e ≡ Next next → (b ≡ true) × (next ≡ e)
+pub when-next : (b : Bool) (e next : Expect) → when_good b e ≡ Some next → (b ≡ true) × (next ≡ e)
 when-next true e next h = (refl, cc)
 when-next false e next h = let z : ◌≡◌ {A = ℕ} 0 1 = cc in absurd (omega arith)
 
@@ -50,11 +49,11 @@ word_more (suc n) c b h = simp unary_clauses
 
 -- the byte at a place is bad, or leads on; or the book ends there
 module _ (bs : List ℕ) (e : Expect) (at : ℕ) where
-  pub bad-here : at < length bs → stepped e (get_or bs at 0) ≡ Bad → bad_from e at (drop at bs) ≡ Some at
+  pub bad-here : at < length bs → stepped e (get_or bs at 0) ≡ None → bad_from e at (drop at bs) ≡ Some at
   unfolding bad_from
   bad-here h g = rw (drop-cons bs at 0, bad_from, g)
 
-  pub bad-later : (next : Expect) → at < length bs → stepped e (get_or bs at 0) ≡ Next next
+  pub bad-later : (next : Expect) → at < length bs → stepped e (get_or bs at 0) ≡ Some next
       → bad_from e at (drop at bs) ≡ bad_from next (at + 1) (drop (at + 1) bs)
   unfolding bad_from
   bad-later next h g = rw (add-one, drop-cons bs at 0, bad_from, g)

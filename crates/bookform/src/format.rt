@@ -1,39 +1,32 @@
 // The form of a book, byte by byte.
 ghost use Rattle.std.specs.Prelude.{◌≡◌, ◌-◌};
-ghost use Rattle.ascii.specs.Text.{found_at};
-ghost use Rattle.bookform.specs.Format.{rule_for, is_known, is_header, is_length, clauses_left, directives_left, when_good, header_step, name_step, word_step, stepped, ended_at, bad_from};
+ghost use Rattle.bookform.specs.Format.{Rules, rule_for, is_known, is_header, is_length, clauses_left, directives_left, when_good, header_step, name_step, word_step, stepped, ended_at, bad_from};
 
 use crate::passing::past_entries;
-use crate::{ClauseRule, Expect, RuleByte, Step};
-use ascii::Found;
+use crate::{ClauseRule, Expect, UnknownRule};
 use ascii::class::is_word;
 
-pub fn wide(b: u8) -> usize
-    ensures { result ≡ b }
-{
-    b as usize
-}
-
 // The rule that a rule byte names; 4 to 255 name none.
-pub fn rule_for(b: u8) -> RuleByte
-    ensures { result ≡ rule_for b }
-{
-    match b {
-        0 => RuleByte::Known(ClauseRule::Bare),
-        1 => RuleByte::Known(ClauseRule::Parenthesized),
-        2 => RuleByte::Known(ClauseRule::Flexible),
-        3 => RuleByte::Known(ClauseRule::Unsupported),
-        4..=255 => RuleByte::Unknown,
+impl TryFrom<u8> for ClauseRule {
+    type Error = UnknownRule;
+
+    ghost try_from_gives = { Rules };
+
+    fn try_from(b: u8) -> Result<ClauseRule, UnknownRule> {
+        match b {
+            0 => Ok(ClauseRule::Bare),
+            1 => Ok(ClauseRule::Parenthesized),
+            2 => Ok(ClauseRule::Flexible),
+            3 => Ok(ClauseRule::Unsupported),
+            4..=255 => Err(UnknownRule(b)),
+        }
     }
 }
 
 pub fn is_rule(b: u8) -> bool
     ensures { result ≡ is_known (rule_for b) }
 {
-    match rule_for(b) {
-        RuleByte::Known(_) => true,
-        RuleByte::Unknown => false,
-    }
+    ClauseRule::try_from(b).is_ok()
 }
 
 // Whether a byte may stand at a place of the header.
@@ -77,107 +70,83 @@ pub fn directives_left(d: usize, c: usize) -> Expect
     Expect::DirectiveLength(d - 1, c)
 }
 
-fn header_step(i: usize, b: u8) -> Step
+fn header_step(i: usize, b: u8) -> Option<Expect>
     ensures { result ≡ header_step i b }
 {
-    let good = is_header(i, b);
-    if i < 7 {
-        return when(good, Expect::HeaderByte(i + 1));
-    }
-    when(good, Expect::ClauseCount(wide(b)))
+    let next = if i < 7 {
+        Expect::HeaderByte(i + 1)
+    } else {
+        Expect::ClauseCount(usize::from(b))
+    };
+    is_header(i, b).then_some(next)
 }
 
 // A length byte says how many bytes of the name come after its first.
 fn less_one(b: u8) -> usize
     ensures { result ≡ b - 1 }
 {
-    if b == 0 {
-        return 0;
-    }
-    wide(b - 1)
+    usize::from(b.saturating_sub(1))
 }
 
-fn when(good: bool, e: Expect) -> Step
-    ensures { result ≡ when_good good e }
-{
-    if good { Step::Next(e) } else { Step::Bad }
-}
-
-fn name_step(n: usize, after_word: bool, d: usize, c: usize, b: u8) -> Step
+fn name_step(n: usize, after_word: bool, d: usize, c: usize, b: u8) -> Option<Expect>
     ensures { result ≡ name_step n after_word d c b }
 {
     let word = is_word(b);
     if n == 0 {
-        return when(word, directives_left(d, c));
+        return word.then_some(directives_left(d, c));
     }
-    when(
-        word | (b == 32) & after_word,
-        Expect::DirectiveName(n - 1, word, d, c),
-    )
+    (word | (b == 32) & after_word).then_some(Expect::DirectiveName(n - 1, word, d, c))
 }
 
-fn word_step(n: usize, c: usize, b: u8) -> Step
+fn word_step(n: usize, c: usize, b: u8) -> Option<Expect>
     ensures { result ≡ word_step n c b }
 {
     let word = is_word(b);
     if n == 0 {
-        return when(word, clauses_left(c));
+        return word.then_some(clauses_left(c));
     }
-    when(word, Expect::ClauseName(n - 1, c))
+    word.then_some(Expect::ClauseName(n - 1, c))
 }
 
-// What is waited for after a byte, or that the byte is bad.
-fn step(e: Expect, b: u8) -> Step
+// What is waited for after a byte; nothing if the byte is bad.
+fn step(e: Expect, b: u8) -> Option<Expect>
     ensures { result ≡ stepped e b }
 {
     match e {
         Expect::HeaderByte(i) => header_step(i, b),
-        Expect::ClauseCount(d) => Step::Next(directives_left(d, wide(b))),
-        Expect::DirectiveLength(d, c) => when(
-            is_length(b),
-            Expect::DirectiveName(less_one(b), false, d, c),
-        ),
+        Expect::ClauseCount(d) => Some(directives_left(d, usize::from(b))),
+        Expect::DirectiveLength(d, c) => {
+            is_length(b).then_some(Expect::DirectiveName(less_one(b), false, d, c))
+        }
         Expect::DirectiveName(n, after_word, d, c) => name_step(n, after_word, d, c, b),
-        Expect::Rule(c) => when(is_rule(b), Expect::ClauseLength(c)),
-        Expect::ClauseLength(c) => when(is_length(b), Expect::ClauseName(less_one(b), c)),
+        Expect::Rule(c) => is_rule(b).then_some(Expect::ClauseLength(c)),
+        Expect::ClauseLength(c) => is_length(b).then_some(Expect::ClauseName(less_one(b), c)),
         Expect::ClauseName(n, c) => word_step(n, c, b),
-        Expect::End => Step::Bad,
+        Expect::End => None,
     }
 }
 
 // Where a book that ends at a place is cut, if it is not whole.
-fn ended(e: Expect, at: usize) -> Found
-    ensures { found_at result ≡ ended_at e at }
+fn ended(e: Expect, at: usize) -> Option<usize>
+    ensures { result ≡ ended_at e at }
 {
     match e {
-        Expect::HeaderByte(_) => Found::At(at),
-        Expect::ClauseCount(_) => Found::At(at),
-        Expect::DirectiveLength(_, _) => Found::At(at),
-        Expect::DirectiveName(_, _, _, _) => Found::At(at),
-        Expect::Rule(_) => Found::At(at),
-        Expect::ClauseLength(_) => Found::At(at),
-        Expect::ClauseName(_, _) => Found::At(at),
-        Expect::End => Found::Nothing,
+        Expect::End => None,
+        _ => Some(at),
     }
 }
 
 // The first bad byte, or the end of a book that is cut. Entries whose form is right are passed at once; the bytes of one whose form is not are read one by one.
-pub fn first_bad(book: &[u8]) -> Found
-    ensures { found_at result ≡ bad_from (Expect.HeaderByte 0) 0 book.now }
+pub fn first_bad(book: &[u8]) -> Option<usize>
+    ensures { result ≡ bad_from (Expect.HeaderByte 0) 0 book.now }
 {
     let waiting = past_entries(book);
     let mut expect = waiting.expect;
-    let mut at = waiting.at;
-    while at < book.len() {
+    for at in waiting.at..book.len() {
         match step(expect, book[at]) {
-            Step::Next(next) => {
-                expect = next;
-                at += 1;
-            }
-            Step::Bad => {
-                return Found::At(at);
-            }
+            Some(next) => expect = next,
+            None => return Some(at),
         }
     }
-    ended(expect, at)
+    ended(expect, book.len())
 }

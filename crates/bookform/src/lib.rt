@@ -5,7 +5,7 @@ pub mod format;
 mod passing;
 
 // What a clause may look like.
-#[derive(Clone, Copy)]
+#[derive(Clone, Copy, Debug, PartialEq, Eq)]
 pub enum ClauseRule {
     // a word alone
     Bare,
@@ -17,15 +17,12 @@ pub enum ClauseRule {
     Unsupported,
 }
 
-// What a rule byte says.
-#[derive(Clone, Copy)]
-pub enum RuleByte {
-    Known(ClauseRule),
-    Unknown,
-}
+// A rule byte that names no rule.
+#[derive(Clone, Copy, Debug, PartialEq, Eq)]
+pub struct UnknownRule(pub u8);
 
 // What a reader of a book waits for. Counts of entries are of those that come after the one being read.
-#[derive(Clone, Copy)]
+#[derive(Clone, Copy, Debug, PartialEq, Eq)]
 pub enum Expect {
     // a byte of the header, 0 to 7
     HeaderByte(usize),
@@ -44,15 +41,8 @@ pub enum Expect {
     End,
 }
 
-// What a byte leads to.
-#[derive(Clone, Copy)]
-pub enum Step {
-    Next(Expect),
-    Bad,
-}
-
 // A place of a book, and what is waited for there.
-#[derive(Clone, Copy)]
+#[derive(Clone, Copy, Debug, PartialEq, Eq)]
 pub struct Waiting {
     pub at: usize,
     pub expect: Expect,
@@ -60,7 +50,7 @@ pub struct Waiting {
 
 // Where entries of one kind stand: as many bytes as lead come before an entry's length byte (none in a directive entry, the rule byte
 // in a clause entry), the place of the first entry, and how many there are.
-#[derive(Clone, Copy)]
+#[derive(Clone, Copy, Debug, PartialEq, Eq)]
 pub struct Entries {
     pub lead: usize,
     pub first: usize,

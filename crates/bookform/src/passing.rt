@@ -1,10 +1,10 @@
 // Entries whose form is right, passed at once. Nearly every entry of a book is, and what its bytes may be is asked of eight of them in one branch.
-ghost use Rattle.std.specs.Prelude.{◌≡◌, true, ◌+◌, ◌-◌, ◌<◌, ◌≤◌, length, drop, get_or};
+ghost use Rattle.std.specs.Prelude.{◌≡◌, true, ◌+◌, ◌-◌, ◌<◌, ◌≤◌, length, drop, get_or, IfSome};
 ghost use Rattle.ascii.specs.Ascii.{is_word};
 ghost use Rattle.bookform.specs.Format.{directives_left, bad_from};
 ghost use Rattle.bookform.specs.Standing.{is_of_name, stands_behind, Standing, IsName, NameEnds, Passed, waits};
 
-use crate::format::{clauses_left, directives_left, is_header, is_length, is_rule, wide};
+use crate::format::{clauses_left, directives_left, is_header, is_length, is_rule};
 use crate::{Entries, Expect, Waiting};
 use ascii::class::{is_letter, is_word};
 
@@ -44,13 +44,6 @@ fn eight_stand(book: &[u8], at: usize, between: u8) -> bool
         & stands_behind(g, book[at + 7], between)
 }
 
-// The lesser of two numbers.
-fn lesser(a: usize, b: usize) -> usize
-    ensures { result ≡ a - (a - b) }
-{
-    if a < b { a } else { b }
-}
-
 // The same up to a place, behind a byte of a word, by eights; the last eight may overlap those before. They are asked in one place, so that the
 // compiler draws the question in.
 fn eights_stand(book: &[u8], from: usize, to: usize, between: u8) -> bool
@@ -60,7 +53,7 @@ fn eights_stand(book: &[u8], from: usize, to: usize, between: u8) -> bool
     let last = to - 8;
     let mut i = from;
     while i < to {
-        let at = lesser(i, last);
+        let at = i.min(last);
         if !eight_stand(book, at, between) {
             return false;
         }
@@ -74,16 +67,12 @@ fn each_stands(book: &[u8], from: usize, to: usize, between: u8) -> bool
     requires { (1 ≤ from) × (to ≤ length book.now) × (is_word (get_or book.now (from - 1) 0) ≡ true) }
     ensures { result ≡ true → Standing between book.now from to }
 {
-    let mut word = true;
-    let mut i = from;
-    while i < to {
-        let b = book[i];
-        let is = is_word(b);
-        if !(is | ((b == between) & word)) {
+    let mut before = book[from - 1];
+    for b in &book[from..to] {
+        if !stands_behind(before, *b, between) {
             return false;
         }
-        word = is;
-        i += 1;
+        before = *b;
     }
     true
 }
@@ -105,48 +94,38 @@ fn is_name(book: &[u8], start: usize, end: usize, between: u8) -> bool
     ensures { result ≡ true → IsName between book.now start end }
 {
     let last = end - 1;
-    if !is_word(book[start]) {
-        return false;
-    }
-    if !is_word(book[last]) {
-        return false;
-    }
-    all_stand(book, start + 1, last, between)
+    is_word(book[start]) && is_word(book[last]) && all_stand(book, start + 1, last, between)
 }
 
-// The end of the name behind the length byte at a place; 0 if the one or the other is not right.
-fn name_end(book: &[u8], place: usize, between: u8) -> usize
-    ensures { 0 < result → NameEnds between place result book.now }
+// The end of the name behind the length byte at a place, if both are right.
+fn name_end(book: &[u8], place: usize, between: u8) -> Option<usize>
+    ensures { IfSome result (λ end. NameEnds between place end book.now) }
 {
-    if place < book.len() {
-        let size = book[place];
-        let length = wide(size);
-        if is_length(size) & (length < book.len() - place) {
-            let start = place + 1;
-            let end = start + length;
-            if is_name(book, start, end, between) {
-                return end;
-            }
+    let size = *book.get(place)?;
+    let length = usize::from(size);
+    if is_length(size) && length < book.len() - place {
+        let start = place + 1;
+        let end = start + length;
+        if is_name(book, start, end, between) {
+            return Some(end);
         }
     }
-    0
+    None
 }
 
-// The end of the entry at a place, a directive's if no byte leads; 0 if its form is not right. Between a directive's words stands a blank; a clause's name is one
+// The end of the entry at a place, a directive's if no byte leads, if its form is right. Between a directive's words stands a blank; a clause's name is one
 // word, and `_` between its parts is of the word.
-fn entry_end(book: &[u8], lead: usize, at: usize) -> usize
+fn entry_end(book: &[u8], lead: usize, at: usize) -> Option<usize>
     requires { lead ≤ 1 }
-    ensures { 0 < result → Passed lead at result book.now }
+    ensures { IfSome result (λ end. Passed lead at end book.now) }
 {
     if lead == 0 {
         return name_end(book, at, 32);
     }
-    if at < book.len() {
-        if is_rule(book[at]) {
-            return name_end(book, at + 1, 95);
-        }
+    if is_rule(*book.get(at)?) {
+        return name_end(book, at + 1, 95);
     }
-    0
+    None
 }
 
 // What is left of the entries from the first on whose form is not right.
@@ -156,26 +135,17 @@ fn entries_left(book: &[u8], entries: Entries) -> Entries
     ensures book_value { (c : _) → bad_from (waits entries.lead result.count c) result.first (drop result.first book.now)
         ≡ bad_from (waits entries.lead entries.count c) entries.first (drop entries.first book.now) }
 {
-    let lead = entries.lead;
-    let mut at = entries.first;
-    let mut left = entries.count;
-    while 0 < left {
-        let end = entry_end(book, lead, at);
-        if end == 0 {
-            return Entries {
-                lead,
-                first: at,
-                count: left,
-            };
+    let mut left = entries;
+    while 0 < left.count {
+        match entry_end(book, left.lead, left.first) {
+            Some(end) => {
+                left.first = end;
+                left.count -= 1;
+            }
+            None => return left,
         }
-        at = end;
-        left -= 1;
     }
-    Entries {
-        lead,
-        first: at,
-        count: left,
-    }
+    left
 }
 
 // Whether a book has its whole header.
@@ -186,14 +156,12 @@ fn has_header(book: &[u8]) -> bool
     if book.len() < 9 {
         return false;
     }
-    let mut i = 0;
-    while i < 7 {
+    for i in 0..8 {
         if !is_header(i, book[i]) {
             return false;
         }
-        i += 1;
     }
-    is_header(7, book[7])
+    true
 }
 
 // What is waited for behind the header and the entries whose form is right.
@@ -207,13 +175,13 @@ pub fn past_entries(book: &[u8]) -> Waiting
             expect: Expect::HeaderByte(0),
         };
     }
-    let c = wide(book[8]);
+    let c = usize::from(book[8]);
     let directives = entries_left(
         book,
         Entries {
             lead: 0,
             first: 9,
-            count: wide(book[7]),
+            count: usize::from(book[7]),
         },
     );
     if 0 < directives.count {

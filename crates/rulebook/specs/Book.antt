@@ -1,11 +1,9 @@
 -- What a book says: its flags, its default rule, and its entries in order. "Entries count from 0."
-use Rattle.std.specs.Prelude.{ℕ, zero, suc, ◌+◌, ◌≤◌, ◌/◌, ◌%◌, Bool, false, List, [], ◌∷◌, length, get_or, eqb}
+use Rattle.std.specs.Prelude.{ℕ, zero, suc, ◌+◌, ◌≤◌, ◌/◌, ◌%◌, Bool, List, [], ◌∷◌, length, map, get_or, eqb, Option, Some, None}
 use Rattle.ascii.specs.declared.Range.{Range}
 use Rattle.ascii.specs.Text.{part}
 use Rattle.bookform.specs.declared.ClauseRule.{ClauseRule}
 use Rattle.bookform.specs.declared.ClauseRule.TheVariants.{Bare, Unsupported}
-use Rattle.bookform.specs.declared.RuleByte.{RuleByte}
-use Rattle.bookform.specs.declared.RuleByte.TheVariants.{Known, Unknown}
 use Rattle.bookform.specs.declared.Entries.{Entries}
 use Rattle.rulebook.specs.declared.Header.{Header}
 use Rattle.bookform.specs.Format.{rule_for}
@@ -17,9 +15,9 @@ pub record Entry : Type 0 where
   pub name : List ℕ
 
 -- the rule that a byte says; a book has known ones only
-abbrev pub rule_said : RuleByte → ClauseRule
-rule_said (Known r) = r
-rule_said Unknown = Unsupported
+abbrev pub rule_said : Option ClauseRule → ClauseRule
+rule_said (Some r) = r
+rule_said None = Unsupported
 
 -- Both kinds of entries are a length byte and the name, after as many bytes as lead: none in a directive entry ("a length byte 1 to 64 and
 -- the name"), the rule byte in a clause entry ("rule byte, length byte 1 to 64, name"). A directive has no rule.
@@ -38,6 +36,10 @@ entry_at lead at bs = record { at = at; rule = rule_led lead (get_or bs at 0); n
 unfoldable pub entries_from : ℕ → ℕ → ℕ → List ℕ → List Entry
 entries_from lead zero at bs = []
 entries_from lead (suc n) at bs = entry_at lead at bs ∷ entries_from lead n (name_at lead at bs).end bs
+
+-- their names
+abbrev pub names_from : ℕ → ℕ → ℕ → List ℕ → List (List ℕ)
+names_from lead n at bs = map (λ e. e.name) (entries_from lead n at bs)
 
 -- the place after n entries from place at on
 unfoldable pub place_after : ℕ → ℕ → ℕ → List ℕ → ℕ
@@ -97,10 +99,3 @@ book_of bs = record {
   directives = entries_in (header_of bs).directives bs;
   clauses = entries_in (header_of bs).clauses bs;
 }
-
--- the header where there is none
-abbrev pub no_entries : Entries
-no_entries = record { lead = 0; first = 0; count = 0 }
-
-abbrev pub no_header : Header
-no_header = record { ignores_case = false; optional_blanks = false; default_rule = Bare; directives = no_entries; clauses = no_entries }

@@ -1,15 +1,14 @@
 -- The book check: the first fault of a book, row 4 of the table.
-use Rattle.std.specs.Prelude.{ℕ, Bool, false, cond, ◌||◌, List, [], ◌∷◌, ◌++◌, ◌≡◌}
+use Rattle.std.specs.Prelude.{ℕ, Bool, false, cond, ◌||◌, List, [], ◌∷◌, ◌++◌}
 use Rattle.std.specs.Prelude.{Option, Some, None}
 use Rattle.ascii.specs.Ascii.{fold}
 use Rattle.ascii.specs.Text.{same_by}
-use Rattle.refusal.specs.Answer.{Answer, given, refused_by, unless_fault}
-use Rattle.rulebook.specs.declared.BookAnswer.{BookAnswer}
-use Rattle.rulebook.specs.declared.BookAnswer.TheVariants.{Valid, Refused}
-use Rattle.rulebook.specs.declared.CheckedBook.{CheckedBook}
+use Rattle.refusal.specs.Answer.{Answer, given, unless_fault}
+use Rattle.refusal.specs.declared.Reason.TheVariants.{WrongBook}
+use Rattle.refusal.specs.Verdict.{Verdict, fault_by}
 use Rattle.bookform.specs.declared.Expect.TheVariants.{HeaderByte}
 use Rattle.bookform.specs.Format.{bad_from}
-use Rattle.rulebook.specs.Book.{Entry, book_of, header_of}
+use Rattle.rulebook.specs.Book.{Entry, book_of}
 
 -- an entry has the name, by a comparison
 unfoldable pub is_named : (ℕ → ℕ) → List ℕ → List Entry → Bool
@@ -33,16 +32,12 @@ unfoldable pub book_fault : List ℕ → Option ℕ
 unfolding bad_from book_of repeat_from
 book_fault bs = or_else (bad_from (HeaderByte 0) 0 bs) (or_else (repeat_from [] (book_of bs).directives) (repeat_from [] (book_of bs).clauses))
 
--- the call: valid, or refusal 4 at the fault
+-- the check: valid, or refusal 4 at the fault
+unfoldable pub book_verdict : List ℕ → Verdict
+unfolding book_fault
+book_verdict bs = fault_by WrongBook (book_fault bs)
+
+-- the call
 unfoldable pub book_call : List ℕ → Answer (Unit {0})
 unfolding book_fault
 book_call bs = unless_fault 4 (book_fault bs) (given tt)
-
-abbrev pub book_gives : BookAnswer → Answer (Unit {0})
-book_gives Valid = given tt
-book_gives (Refused r) = refused_by r
-
--- what a check leaves: the verdict on the book, and the header of a valid one
-pub record Stands (bs : List ℕ) (c : CheckedBook) : Type 0 where
-  pub judged : book_gives c.verdict ≡ book_call bs
-  pub known : book_fault bs ≡ None → c.header ≡ header_of bs

@@ -4,8 +4,7 @@ use Rattle.std.specs.Prelude.{Option, Some, None}
 use Rattle.ascii.specs.Text.{same_by, comparing}
 use Rattle.bookform.specs.declared.ClauseRule.{ClauseRule}
 use Rattle.rulebook.specs.declared.ClauseEntry.{ClauseEntry}
-use Rattle.rulebook.specs.declared.EntryFound.{EntryFound}
-use Rattle.rulebook.specs.declared.EntryFound.TheVariants.{At, Nothing}
+use Rattle.rulebook.specs.declared.index.FoundEntry.{FoundEntry}
 use Rattle.rulebook.specs.Book.{Entry, Book}
 
 -- how names compare under a book: "bit 0 ignore case"
@@ -19,10 +18,10 @@ entry_from f i name [] = None
 entry_from f i name (e ∷ es) = cond (same_by f e.name name) (Some i) (entry_from f (suc i) name es)
 
 -- the same entry with its place
-unfoldable pub find_from : (ℕ → ℕ) → ℕ → List ℕ → List Entry → EntryFound
+unfoldable pub find_from : (ℕ → ℕ) → ℕ → List ℕ → List Entry → Option FoundEntry
 unfolding same_by
-find_from f i name [] = Nothing
-find_from f i name (e ∷ es) = cond (same_by f e.name name) (At i e.at) (find_from f (suc i) name es)
+find_from f i name [] = None
+find_from f i name (e ∷ es) = cond (same_by f e.name name) (Some (record { index = i; at = e.at })) (find_from f (suc i) name es)
 
 -- "rule entry (65,535 if none)"
 abbrev pub no_entry : ℕ

@@ -4,13 +4,56 @@ ghost use Rattle.ascii.specs.Text.{comparing};
 ghost use Rattle.rulebook.specs.Book.{entries_in, LaidIn};
 ghost use Rattle.rulebook.specs.Lookup.{find_from};
 ghost use Rattle.rulebook.specs.Signature.{signature as signature_of};
-ghost use Rattle.rulebook.specs.Index.{last_named, Indexed, Looked};
+ghost use Rattle.rulebook.specs.Index.{last_named, Indexed, Looked, Fresh, Blank};
 
-use crate::EntryFound;
 use crate::lookup::{name_at, same};
 use ascii::class::fold;
 use bookform::Entries;
-use bookform::format::wide;
+
+// The entries of one kind: for each signature the last entry that has it, and for each entry the one before it with the same. A slot is one
+// word, 0 if there is no entry, so that a link is followed by one load and the whole index is 4 KB: how far behind the first the entry
+// stands, and its number.
+#[derive(Drop)]
+pub struct NameIndex {
+    pub heads: [u32; 256],
+    pub links: [u32; 256],
+}
+
+impl NameIndex {
+    fn new() -> NameIndex
+        ensures { Blank result }
+    {
+        NameIndex {
+            heads: [0; 256],
+            links: [0; 256],
+        }
+    }
+}
+
+// The index of a book, which the caller lends: a kind of entries each.
+#[derive(Drop)]
+pub struct Index {
+    pub directives: NameIndex,
+    pub clauses: NameIndex,
+}
+
+impl Index {
+    pub fn new() -> Index
+        ensures { Fresh result }
+    {
+        Index {
+            directives: NameIndex::new(),
+            clauses: NameIndex::new(),
+        }
+    }
+}
+
+// An entry that was looked up: its number and the place of its first byte.
+#[derive(Clone, Copy, Debug, PartialEq, Eq)]
+pub struct FoundEntry {
+    pub index: usize,
+    pub at: usize,
+}
 
 // A number that names share if they are equal with case ignored: it is made of their bytes folded. Five bits of each tell letters apart, and of these
 // the compiler knows without a sum that folding leaves them.
@@ -18,14 +61,11 @@ pub fn signature(name: &[u8]) -> usize
     ensures upper_bound { result < 256 }
     ensures value { result ≡ signature_of name.now }
 {
-    let count = name.len();
     let mut sum = 0;
     let mut sums = 0;
-    let mut i = 0;
-    while i < count {
+    for b in name {
         sums = (sums + sum) % 4096;
-        sum = (sum + wide(fold(name[i]) % 32)) % 4096;
-        i += 1;
+        sum = (sum + usize::from(fold(*b) % 32)) % 4096;
     }
     (sum + sums * 37) % 256
 }
@@ -34,50 +74,41 @@ pub fn signature(name: &[u8]) -> usize
 pub fn last_named(
     book: &[u8],
     entries: Entries,
-    index: &[u32],
+    index: &NameIndex,
     mark: usize,
     name: &[u8],
     ignore_case: bool,
-) -> EntryFound
+) -> Option<FoundEntry>
     requires laid_in { LaidIn entries book.now }
     requires mark_bound { (mark < 256) × (mark ≡ signature_of name.now) }
     requires indexed { Indexed entries.lead entries.first entries.count book.now index.now }
     ensures { result ≡ last_named (comparing ignore_case) name.now entries.lead entries.first book.now entries.count }
 {
-    let lead = entries.lead;
-    let first = entries.first;
-    // not read below: the loop's invariant speaks of it
-    let count = entries.count;
-    let heads = lead * 512;
-    let links = heads + 256;
-    let mut slot = index[heads + mark];
+    let mut slot = index.heads[mark];
     while slot != 0 {
         let told = (slot - 1) as usize;
-        let i = told % 256;
-        let at = first + told / 256;
-        let range = name_at(book, lead, at);
-        let start = range.start;
-        let end = range.end;
-        if same(&book[start..end], name, ignore_case) {
-            return EntryFound::At(i, at);
+        let number = told % 256;
+        let at = entries.first + told / 256;
+        let range = name_at(book, entries.lead, at);
+        if same(&book[range.start..range.end], name, ignore_case) {
+            return Some(FoundEntry { index: number, at });
         }
-        slot = index[links + i];
+        slot = index.links[number];
     }
-    EntryFound::Nothing
+    None
 }
 
 // The entry that has a name. There is no second one.
 pub fn look_up(
     book: &[u8],
     entries: Entries,
-    index: &[u32],
+    index: &NameIndex,
     name: &[u8],
     ignore_case: bool,
-) -> EntryFound
+) -> Option<FoundEntry>
     requires laid_in { LaidIn entries book.now }
     requires looked { Looked entries book.now index.now }
     ensures { result ≡ find_from (comparing ignore_case) 0 name.now (entries_in entries book.now) }
 {
-    let mark = signature(name);
-    last_named(book, entries, index, mark, name, ignore_case)
+    last_named(book, entries, index, signature(name), name, ignore_case)
 }

@@ -3,19 +3,21 @@
 
 pub mod index;
 pub mod lookup;
+pub mod names;
 mod repeats;
 
-ghost use Rattle.std.specs.Prelude.{◌≡◌};
-ghost use Rattle.refusal.specs.Answer.{refused as refused_at};
-ghost use Rattle.rulebook.specs.Check.{book_call, book_gives, Stands};
+ghost use Rattle.std.specs.Prelude.{◌≡◌, None, Some, MatchResult};
+ghost use Rattle.refusal.specs.Verdict.{refusal_at};
+ghost use Rattle.rulebook.specs.Book.{header_of};
+ghost use Rattle.rulebook.specs.Check.{book_fault, book_verdict};
 ghost use Rattle.rulebook.specs.Index.{Fresh, Indexes};
 
-use ascii::Found;
 use bookform::{ClauseRule, Entries, format};
+use index::Index;
 use refusal::{Reason, Refusal};
 
 // What a book's header says.
-#[derive(Clone, Copy)]
+#[derive(Clone, Copy, Debug, PartialEq, Eq)]
 pub struct Header {
     pub ignores_case: bool,
     pub optional_blanks: bool,
@@ -24,77 +26,49 @@ pub struct Header {
     pub clauses: Entries,
 }
 
-// An entry that was looked up: its index and the place of its first byte.
-#[derive(Clone, Copy)]
-pub enum EntryFound {
-    At(usize, usize),
-    Nothing,
-}
-
-// What a book says of a clause's name: the index of its entry, 65,535 if it has none, and its rule.
-#[derive(Clone, Copy)]
+// What a book says of a clause's name: the index of its entry, 65,535 if it has none (a form that the calls for C hand on), and its rule.
+#[derive(Clone, Copy, Debug, PartialEq, Eq)]
 pub struct ClauseEntry {
     pub index: u16,
     pub rule: ClauseRule,
 }
 
-// The book is valid, or refusal 4 with its place.
+// A valid book, with its header and the index by which its names are looked up.
 #[derive(Clone, Copy)]
-pub enum BookAnswer {
-    Valid,
-    Refused(Refusal),
-}
-
-// What the check of a book leaves to all that is read under it: its verdict, and the header if it is valid.
-#[derive(Clone, Copy)]
-pub struct CheckedBook {
-    pub verdict: BookAnswer,
+pub struct CheckedBook<'a> {
+    pub bytes: &'a [u8],
     pub header: Header,
+    index: &'a Index,
+    pub ghost valid: { book_fault bytes.now ≡ None },
+    pub ghost header_read: { header ≡ header_of bytes.now },
+    pub ghost indexed: { Indexes bytes.now index.now },
 }
 
-fn refused(place: usize) -> BookAnswer
-    ensures { book_gives result ≡ refused_at 4 place }
-{
-    BookAnswer::Refused(Refusal {
-        reason: Reason::WrongBook,
-        place,
-    })
-}
-
-// The check: a bad byte, the book's end if it is cut, else a repeat. The header is read once, and in a book without a fault the index is made.
-pub fn checked(book: &[u8], index: &mut [u32]) -> CheckedBook
+// The check: a bad byte, the book's end if it is cut, else a repeat. In a book without a fault the index is made.
+pub fn checked<'a>(book: &'a [u8], index: &'a mut Index) -> Result<CheckedBook<'a>, Refusal>
     requires { Fresh index.old }
-    ensures stands { Stands book.now result }
-    ensures indexes { Indexes book.now index.new }
+    ensures { MatchResult result
+        (λ checked. checked.bytes.now ≡ book.now)
+        (λ r. (r ≡ refusal_at Reason.WrongBook r.place) × (book_fault book.now ≡ Some r.place)) }
 {
-    match format::first_bad(book) {
-        Found::At(place) => CheckedBook {
-            verdict: refused(place),
-            header: lookup::no_header(),
-        },
-        Found::Nothing => {
-            let repeats = repeats::first_repeat(book, index);
-            let found = repeats.found;
-            let end = repeats.end;
-            match found {
-                Found::At(place) => CheckedBook {
-                    verdict: refused(place),
-                    header: lookup::no_header(),
-                },
-                Found::Nothing => CheckedBook {
-                    verdict: BookAnswer::Valid,
-                    header: lookup::read_header(book, end),
-                },
-            }
-        }
+    if let Some(place) = format::first_bad(book) {
+        return Err(Reason::WrongBook.at(place));
+    }
+    match repeats::index_names(book, index) {
+        Ok(end) => Ok(CheckedBook {
+            bytes: book,
+            header: lookup::read_header(book, end),
+            index,
+        }),
+        Err(place) => Err(Reason::WrongBook.at(place)),
     }
 }
 
-// Whether a book is valid.
-pub fn check_book(book: &[u8]) -> BookAnswer
-    ensures { book_gives result ≡ book_call book.now }
+// Whether a book is valid: refusal 4 with its place if not.
+pub fn check_book(book: &[u8]) -> Result<(), Refusal>
+    ensures { result ≡ book_verdict book.now }
 {
-    let mut index = [0u32; 1024];
-    let checked = checked(book, &mut index);
-    checked.verdict
+    let mut index = Index::new();
+    checked(book, &mut index)?;
+    Ok(())
 }
