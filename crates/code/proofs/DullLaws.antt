@@ -1,6 +1,6 @@
 -- Laws of dull bytes: before a row of them and behind it the same is unclosed, wherever it stands.
 -- By the laws of the marks, a byte at a time. Assumes nothing.
-use mathlib.Core.Path.{◌≡◌, refl, ap, ◌∙◌}
+use mathlib.Core.Path.{◌≡◌, refl, sym, ap, ◌∙◌}
 use mathlib.Core.Bool.{Bool, true, false, cond, not, ◌&&◌, ◌||◌}
 use mathlib.Core.List.{List}
 use Prim.Native.Nat.{ℕ, zero, suc, ◌+◌, ◌-◌, ◌^◌, ◌<◌, ◌≤◌}
@@ -15,9 +15,10 @@ use Rattle.ascii.proofs.Flags.{and_left, and_right, or-none, by_cases}
 use Rattle.code.specs.declared.CommentStyle.{CommentStyle}
 use Rattle.code.specs.declared.Flags.{Flags}
 use Rattle.code.specs.Code.{has_escapes, hides_next, is_plain}
-use Rattle.code.specs.Marks.{clean, flags_at, marks_from, is_dull, dulls}
+use Rattle.code.specs.Marks.{clean, flags_at, marks_from, marked_from, is_dull, dulls}
+use Rattle.code.proofs.Laws.{drop_at}
 use Rattle.code.proofs.WalkLaws.{plain_code}
-use Rattle.code.proofs.MarkLaws.{clean-code, quote-plain, block_goes, line-goes, ones}
+use Rattle.code.proofs.MarkLaws.{clean-code, quote-plain, block_goes, line-goes, ones, flag-code}
 
 -- one dull byte, and a row of them
 module _ (style : CommentStyle) (s : List ℕ) where
@@ -95,9 +96,23 @@ module _ (style : CommentStyle) (s : List ℕ) where
       let c = clean_run (suc n) i h d in
       rw (marks-run n (suc i) (omega arith) (dull-rest i n d), e, c) (ones style s (clean style s (i + suc n)) n)
 
-  pub dulls-told : (at k : ℕ) → dulls s at k ≡ true → Dull at (suc k)
-  dulls-told at zero e j h = let z : j ≡ 0 = omega arith in rw (z, add-zero at) e
-  dulls-told at (suc k) e j h =
-      by_cases (eqb j (suc k))
-      (λ t. rw (eqb-true j (suc k) t) (and_right (dulls s at k) (is_dull (get_or s (at + suc k) 0)) e))
-      (λ f. dulls-told at k (and_left (dulls s at k) (is_dull (get_or s (at + suc k) 0)) e) j (omega (arith, eqb-false j (suc k) f)))
+  -- what the question of n bytes tells
+  pub dulls-told : (n at : ℕ) → at + n ≤ length s → dulls s at n ≡ true → Dull at n
+  dulls-told zero at h e j p = absurd (omega arith)
+  dulls-told (suc n) at h e j p =
+      let inside : at < length s = omega arith in
+      let f = rw (drop_at s at inside) at e in
+      by_cases (eqb j 0)
+      (λ t. rw (eqb-true j 0 t, add-zero at) (and_left (is_dull (get_or s at 0)) (dulls s (at + 1) n) f))
+      (λ t. let k : at + 1 + (j - 1) ≡ at + j = omega (arith, eqb-false j 0 t) in
+          rw k at (dulls-told n (at + 1) (omega arith) (and_right (is_dull (get_or s at 0)) (dulls s (at + 1) n) f) (j - 1) (omega (arith, eqb-false j 0 t))))
+
+  -- eight of them: all marks are that of the place behind them, and its flags are those of the first and the second
+  pub dull-octet : (at : ℕ) (f : Flags) → at + 8 ≤ length s → dulls s at 8 ≡ true → f ≡ flags_at style s (at + 8)
+      → marked_from style s at 8 ≡ record { bits = cond f.code 255 0; near = record { one = f; two = f } }
+  dull-octet at f h d e =
+      let n = dulls-told 8 at h d in
+      let one : flags_at style s at ≡ f = flags-run 8 at h n ∙ sym e in
+      let two : flags_at style s (at + 1) ≡ f = sym (flags-dull at (omega arith) (dull-first at 7 n)) ∙ one in
+      let b : marks_from style s at 8 ≡ cond f.code 255 0 = marks-run 8 at h n ∙ ap (λ c. cond c 255 0) (sym (flag-code style s (at + 8) f e)) in
+      rw (one, two, b) refl

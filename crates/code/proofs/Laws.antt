@@ -17,7 +17,7 @@ use Rattle.ascii.specs.Text.{leading, up_to}
 use Rattle.ascii.proofs.Flags.{and_right}
 use Rattle.code.specs.declared.CommentStyle.{CommentStyle}
 use Rattle.code.specs.declared.Piece.TheVariants.{Code, Hidden, OpenQuote, OpenComment}
-use Rattle.code.specs.declared.Unclosed.TheVariants.{Nothing, Quote, Comment}
+use Rattle.code.specs.declared.Unclosed.TheVariants.{Quote, Comment}
 use Rattle.code.specs.Code.{is_c_like, is_fortran, hides_next, more, literal, block_end, quoted, commented, slashed, banged, piece, rest, placed, scan_from, scan_at, onward}
 
 pub more-more : (a b : ℕ) (o : Option ℕ) → more a (more b o) ≡ more (a + b) o
@@ -192,13 +192,13 @@ module _ (style : CommentStyle) (s : List ℕ) (i : ℕ) where
       let q : i + 1 + (n - 1) ≡ i + n = omega arith in
       scan-is h ∙ rw (e, scan-skip style (n - 1) (i + 1) (drop (i + 1) s), drop-drop (n - 1) (i + 1) s, q) refl
 
-  pub scan-quote : i < length s → piece style (drop i s) ≡ OpenQuote → scan_at style s i ≡ record { codes = []; fault = Quote i }
+  pub scan-quote : i < length s → piece style (drop i s) ≡ OpenQuote → scan_at style s i ≡ record { codes = []; fault = Some (Quote i) }
   scan-quote h e = scan-is h ∙ rw e refl
 
-  pub scan-comment : i < length s → piece style (drop i s) ≡ OpenComment → scan_at style s i ≡ record { codes = []; fault = Comment i }
+  pub scan-comment : i < length s → piece style (drop i s) ≡ OpenComment → scan_at style s i ≡ record { codes = []; fault = Some (Comment i) }
   scan-comment h e = scan-is h ∙ rw e refl
 
-  pub scan-end : length s ≤ i → scan_at style s i ≡ record { codes = []; fault = Nothing }
+  pub scan-end : length s ≤ i → scan_at style s i ≡ record { codes = []; fault = None }
   unfolding scan_from
   scan-end h = rw (drop_of_length-le s h)
 

@@ -2,27 +2,26 @@
 -- Assumes nothing.
 use mathlib.Core.Path.{◌≡◌, refl, ap, ◌∙◌}
 use mathlib.Core.Bool.{Bool, true, false, cond, not, ◌&&◌, ◌||◌}
-use Rattle.std.specs.Prelude.{Option, Some, None}
+use Rattle.std.specs.Prelude.{Option, Some, None, is_none}
+use Rattle.std.proofs.Common.{◌⊎◌, inl, inr}
 use mathlib.Core.List.{List, [], ◌∷◌}
 use Prim.Native.Nat.{ℕ, zero, suc, ◌+◌, ◌-◌, ◌*◌, ◌/◌, ◌%◌, ◌^◌, ◌<◌, ◌≤◌}
 use native.Mathlib.Nat.{add-zero, pow-zero, pow-succ', mul_assoc, div-div-eq-div-mul, div-one}
+use native.Mathlib.Numerals.{add-one}
 use native.Mathlib.Omega.{arith}
 use borrow.Author.Tests.{eqb-true, not-false}
+use mir.Val.{bool_byte}
 use lib.Dec.{eqb}
 use lib.Pow.{pow_pos, pow_mono}
 use lib.ListN.{length, drop, get_or, drop_of_length-le}
 use Rattle.ascii.specs.Ascii.{is_eol}
 use Rattle.ascii.specs.Text.{up_to}
 use Rattle.code.specs.declared.CommentStyle.{CommentStyle}
-use Rattle.code.specs.declared.Unclosed.{Unclosed}
-use Rattle.code.specs.declared.Unclosed.TheVariants.{Nothing, Quote, Comment}
-use Rattle.code.specs.declared.Match.{Match}
-use Rattle.code.specs.declared.Match.TheVariants.{Unmatched}
 use Rattle.code.specs.declared.Flags.{Flags}
+use Rattle.code.specs.declared.Near.{Near}
 use Rattle.code.specs.declared.Piece.TheVariants.{Code, Hidden}
 use Rattle.code.specs.Code.{Scan, more, hides_next, literal, block_end, quoted, is_c_like, is_fortran, commented, slashed, banged, piece, is_plain, scan_at}
-use Rattle.code.specs.Matching.{match_from, unless_open, matching}
-use Rattle.code.specs.Marks.{is_nothing, clean, ends_clean, quote_clean, block_clean, line_clean, past_end, flags_at, marks_from, Marked}
+use Rattle.code.specs.Marks.{clean, ends_clean, quote_clean, block_clean, line_clean, past_end, flags_at, near_at, marks_from, Marked}
 use Rattle.code.proofs.Laws.{drop_at, scan-code, scan-hidden, scan-quote, scan-comment, scan-end, literal-both, literal-closed, literal-plain, literal-end, block_closed, block-plain, block_none, slash-block, slash-line, slash-code, bang-line, bang-code, piece_is}
 
 module _ (style : CommentStyle) (s : List ℕ) (i : ℕ) where
@@ -33,7 +32,7 @@ module _ (style : CommentStyle) (s : List ℕ) (i : ℕ) where
   hides q = hides_next style q (get_or s i 0) (get_or s (i + 1) 0)
 
   abbrev told : Scan → Bool
-  told x = is_nothing x.fault
+  told x = is_none x.fault
 
   -- in a literal
   pub quote-both : (q : ℕ) → i < length s → hides q ≡ true → quote_clean style s q i ≡ quote_clean style s q (i + 2)
@@ -125,10 +124,6 @@ module _ (style : CommentStyle) (s : List ℕ) (i : ℕ) where
   pub at-bang-else : i < length s → get_or s i 0 ≡ 33 → (is_fortran style && not (eqb (get_or s (i + 1) 0) 36)) ≡ false → clean style s i ≡ clean style s (i + 1)
   at-bang-else h b e = clean-code h (bang-piece h b ∙ bang-code style s i e)
 
--- what is left where a byte is not plain, no quote and no slash
-pub only-bang : (b : ℕ) → is_plain b ≡ false → eqb b 39 ≡ false → eqb b 34 ≡ false → eqb b 47 ≡ false → b ≡ 33
-only-bang b p q r t = eqb-true b 33 (not-false (eqb b 33) (rw (q, r, t) at p))
-
 -- each of the five flags
 module _ (style : CommentStyle) (s : List ℕ) (i : ℕ) (f : Flags) (e : f ≡ flags_at style s i) where
   pub flag-code : f.code ≡ clean style s i
@@ -151,6 +146,47 @@ module _ (style : CommentStyle) (s : List ℕ) (i : ℕ) (f : Flags) (e : f ≡ 
   unfolding flags_at
   flag-line = ap (λ (x : Flags). x.line) e
 
+-- the flags of the two places behind one
+module _ (style : CommentStyle) (s : List ℕ) (i : ℕ) (near : Near) (e : near ≡ near_at style s (i + 1)) where
+  pub flags-one : near.one ≡ flags_at style s (i + 1)
+  flags-one = ap (λ (n : Near). n.one) e
+
+  pub flags-two : near.two ≡ flags_at style s (i + 2)
+  flags-two = let k : i + 1 + 1 ≡ i + 2 = omega arith in ap (λ (n : Near). n.two) e ∙ ap (flags_at style s) k
+
+  pub one-code : near.one.code ≡ clean style s (i + 1)
+  one-code = flag-code style s (i + 1) near.one flags-one
+
+  pub one-single : near.one.single ≡ quote_clean style s 39 (i + 1)
+  one-single = flag-single style s (i + 1) near.one flags-one
+
+  pub one-double : near.one.double ≡ quote_clean style s 34 (i + 1)
+  one-double = flag-double style s (i + 1) near.one flags-one
+
+  pub one-block : near.one.block ≡ block_clean style s (i + 1)
+  one-block = flag-block style s (i + 1) near.one flags-one
+
+  pub one-line : near.one.line ≡ line_clean style s (i + 1)
+  one-line = flag-line style s (i + 1) near.one flags-one
+
+  pub two-code : near.two.code ≡ clean style s (i + 2)
+  two-code = flag-code style s (i + 2) near.two flags-two
+
+  pub two-block : near.two.block ≡ block_clean style s (i + 2)
+  two-block = flag-block style s (i + 2) near.two flags-two
+
+  pub two-line : near.two.line ≡ line_clean style s (i + 2)
+  two-line = flag-line style s (i + 2) near.two flags-two
+
+  -- those of a literal in q
+  pub one-literal : (q : ℕ) → (q ≡ 39) ⊎ (q ≡ 34) → cond (eqb q 39) near.one.single near.one.double ≡ quote_clean style s q (i + 1)
+  one-literal q (inl h) = rw h one-single
+  one-literal q (inr h) = rw h one-double
+
+  pub two-literal : (q : ℕ) → (q ≡ 39) ⊎ (q ≡ 34) → cond (eqb q 39) near.two.single near.two.double ≡ quote_clean style s q (i + 2)
+  two-literal q (inl h) = rw h (flag-single style s (i + 2) near.two flags-two)
+  two-literal q (inr h) = rw h (flag-double style s (i + 2) near.two flags-two)
+
 -- all five together
 module _ (style : CommentStyle) (s : List ℕ) (i : ℕ) where
   pub flags-made : (f : Flags) → f.code ≡ clean style s i → f.single ≡ quote_clean style s 39 i → f.double ≡ quote_clean style s 34 i → f.block ≡ block_clean style s i → f.line ≡ line_clean style s i → f ≡ flags_at style s i
@@ -165,6 +201,14 @@ module _ (style : CommentStyle) (s : List ℕ) (i : ℕ) where
 module _ (style : CommentStyle) (s : List ℕ) where
   abbrev pub mark : ℕ → ℕ
   mark i = cond (clean style s i) 1 0
+
+  -- the flag as a number is the mark
+  pub mark-is : (i : ℕ) (f : Flags) → f ≡ flags_at style s i → bool_byte f.code ≡ mark i
+  mark-is i f e = ap bool_byte (flag-code style s i f e) ∙ told (clean style s i)
+    where
+      told : (b : Bool) → bool_byte b ≡ cond b 1 0
+      told true = refl
+      told false = refl
 
   mark-small : (b : Bool) → cond b 1 0 ≤ 1
   mark-small true = omega arith
@@ -189,6 +233,13 @@ module _ (style : CommentStyle) (s : List ℕ) where
   marks-past zero i h = refl
   marks-past (suc n) i h = rw (clean-past style s i h, marks-past n (suc i) (omega arith)) (ones true n)
 
+  pub near-past : (i : ℕ) → length s ≤ i → near_at style s i ≡ record { one = past_end; two = past_end }
+  near-past i h = rw (flags-past style s i h, flags-past style s (i + 1) (omega arith)) refl
+
+  -- a mark more, in the lowest bit
+  pub marks-one : (i n bits b : ℕ) → bits ≡ marks_from style s (i + 1) n → b ≡ mark i → bits * 2 + b ≡ marks_from style s i (n + 1)
+  marks-one i n bits b e f = rw (add-one n, ← (add-one i)) (omega (arith, e, f))
+
   pub marks-bit : (j n i : ℕ) → j < n → marks_from style s i n / 2 ^ j % 2 ≡ mark (i + j)
   marks-bit j zero i h = absurd (omega arith)
   marks-bit zero (suc n) i h =
@@ -211,6 +262,10 @@ module _ (style : CommentStyle) (s : List ℕ) where
       nested : (b x p y : ℕ) → b + 2 * (x + p * y) ≡ b + 2 * x + 2 * p * y
       nested b x p y = rw (mul_assoc 2 p y) (omega arith)
 
+  -- eight marks more
+  pub marks-eight : (i n bits b : ℕ) → bits ≡ marks_from style s (i + 8) n → b ≡ marks_from style s i 8 → bits * 256 + b ≡ marks_from style s i (8 + n)
+  marks-eight i n bits b e f = rw (marks-split 8 n i) (omega (arith, e, f))
+
   -- the mark of a place in its cell
   pub mark-told : (b : Bool) → eqb (cond b 1 0) 1 ≡ b
   mark-told true = refl
@@ -222,28 +277,3 @@ module _ (style : CommentStyle) (s : List ℕ) where
       let p : 32 * (at / 32) + at % 32 ≡ at = omega arith in
       let j : at % 32 < 32 = omega arith in
       rw (m.cells (at / 32) k, marks-bit (at % 32) 32 (32 * (at / 32)) j, p) (mark-told (clean style s at))
-
-  -- by the mark the match is that of the brackets alone, or none
-  nothing-told : (f : Unclosed) → is_nothing f ≡ true → f ≡ Nothing
-  nothing-told Nothing e = refl
-  nothing-told (Quote p) e = absurd (let z : ◌≡◌ {A = ℕ} 0 1 = cc in omega arith)
-  nothing-told (Comment p) e = absurd (let z : ◌≡◌ {A = ℕ} 0 1 = cc in omega arith)
-
-  open_told : (f : Unclosed) (m : Match) → is_nothing f ≡ false → unless_open f m ≡ Unmatched
-  open_told Nothing m e = absurd (let z : ◌≡◌ {A = ℕ} 0 1 = cc in omega arith)
-  open_told (Quote p) m e = refl
-  open_told (Comment p) m e = refl
-
-  pub clean-nothing : (at : ℕ) → clean style s at ≡ true → (scan_at style s at).fault ≡ Nothing
-  unfolding clean
-  clean-nothing at e = nothing-told (scan_at style s at).fault e
-
-  pub unclean-unmatched : (at : ℕ) → clean style s at ≡ false → matching style at (drop at s) ≡ Unmatched
-  unfolding clean matching
-  unclean-unmatched at e = open_told (scan_at style s at).fault (match_from (41 ∷ []) (scan_at style s at).codes) e
-
--- where nothing is unclosed the match is that of the brackets alone
-pub match-clean : (style : CommentStyle) (s : List ℕ) (at : ℕ) → (scan_at style s at).fault ≡ Nothing
-    → matching style at (drop at s) ≡ match_from (41 ∷ []) (scan_at style s at).codes
-unfolding matching
-match-clean style s at e = rw e refl

@@ -3,6 +3,7 @@
 use mathlib.Core.Path.{◌≡◌, refl, sym, ap, ◌∙◌}
 use mathlib.Core.Bool.{Bool, true, false, cond, ◌||◌}
 use mathlib.Core.List.{List, [], ◌∷◌}
+use Rattle.std.specs.Prelude.{Option, Some, None, Ok, Err}
 use Prim.Native.Nat.{ℕ, zero, suc, ◌+◌, ◌-◌, ◌<◌, ◌≤◌}
 use native.Mathlib.Omega.{arith}
 use native.Mathlib.Nat.{add-zero}
@@ -14,14 +15,13 @@ use Rattle.ascii.specs.Text.{leading}
 use Rattle.ascii.proofs.Flags.{or-none, by_cases}
 use Rattle.code.specs.declared.CommentStyle.{CommentStyle}
 use Rattle.code.specs.declared.Unclosed.{Unclosed}
-use Rattle.code.specs.declared.Unclosed.TheVariants.{Nothing, Quote, Comment}
+use Rattle.code.specs.declared.Unclosed.TheVariants.{Quote, Comment}
 use Rattle.code.specs.declared.Piece.{Piece}
 use Rattle.code.specs.declared.Piece.TheVariants.{Code, Hidden, OpenQuote, OpenComment}
-use Rattle.code.specs.declared.Match.{Match}
-use Rattle.code.specs.declared.Match.TheVariants.{ClosedAt, Unmatched, DeepAt}
+use Rattle.code.specs.declared.NoMatch.TheVariants.{Unmatched, DeepAt}
 use Rattle.code.specs.Code.{Scan, piece, is_plain, rest, placed, scan_from, scan_at}
 use Rattle.code.specs.Bracket.{Brackets, held, deep, wrong, is_empty, taken}
-use Rattle.code.specs.Matching.{matched, match_from, unless_open, matching}
+use Rattle.code.specs.Matching.{Match, matched, match_from, unless_open, matching}
 use Rattle.code.proofs.Laws.{piece_is, scan-code, scan-hidden}
 
 -- a step of the walk keeps the fault
@@ -42,25 +42,25 @@ module _ (style : CommentStyle) (s : List ℕ) (i : ℕ) where
 
 -- where the match is found the walk has come to it, with the same fault behind
 module _ (style : CommentStyle) (p : ℕ) where
-  abbrev Behind : ℕ → List ℕ → Unclosed → Type 0
+  abbrev Behind : ℕ → List ℕ → Option Unclosed → Type 0
   Behind at xs f = (at ≤ p) × (f ≡ (scan_from style 0 (p + 1) (drop (p + 1 - at) xs)).fault)
 
   -- one byte further on
-  further : (at x : ℕ) (xs : List ℕ) (f : Unclosed) → Behind (suc at) xs f → Behind at (x ∷ xs) f
+  further : (at x : ℕ) (xs : List ℕ) (f : Option Unclosed) → Behind (suc at) xs f → Behind at (x ∷ xs) f
   further at x xs f b =
       let h = b.0 in
       let e : p + 1 - at ≡ suc (p + 1 - suc at) = omega arith in
       (omega arith, rw e b.1)
 
-  none : {X : Type 0} → Unmatched ≡ ClosedAt p → X
+  none : {X : Type 0} → ◌≡◌ {A = Match} (Err Unmatched) (Ok p) → X
   none e = absurd (let z : ◌≡◌ {A = ℕ} 0 1 = cc in omega arith)
 
-  too-deep : {X : Type 0} (q : ℕ) → DeepAt q ≡ ClosedAt p → X
+  too-deep : {X : Type 0} (q : ℕ) → ◌≡◌ {A = Match} (Err (DeepAt q)) (Ok p) → X
   too-deep q e = absurd (let z : ◌≡◌ {A = ℕ} 0 1 = cc in omega arith)
 
-  module _ (at x : ℕ) (xs : List ℕ) (again : (k : ℕ) (stack : List ℕ) → match_from stack (scan_from style k (suc at) xs).codes ≡ ClosedAt p → Behind (suc at) xs (scan_from style k (suc at) xs).fault) where
+  module _ (at x : ℕ) (xs : List ℕ) (again : (k : ℕ) (stack : List ℕ) → match_from stack (scan_from style k (suc at) xs).codes ≡ Ok p → Behind (suc at) xs (scan_from style k (suc at) xs).fault) where
     -- a byte of code, by what is left open
-    left : (stack : List ℕ) (t : Bool) → cond t (ClosedAt at) (match_from stack (scan_from style 0 (suc at) xs).codes) ≡ ClosedAt p
+    left : (stack : List ℕ) (t : Bool) → cond t (Ok at) (match_from stack (scan_from style 0 (suc at) xs).codes) ≡ Ok p
         → Behind at (x ∷ xs) (scan_from style 0 (suc at) xs).fault
     left stack true e =
         let q : at ≡ p = cc in
@@ -69,21 +69,21 @@ module _ (style : CommentStyle) (p : ℕ) where
         (omega arith, rw (d, n) refl)
     left stack false e = further at x xs _ (again 0 stack e)
 
-    byte : (b : Brackets) → matched b at (λ stack. match_from stack (scan_from style 0 (suc at) xs).codes) ≡ ClosedAt p → Behind at (x ∷ xs) (scan_from style 0 (suc at) xs).fault
+    byte : (b : Brackets) → matched b at (λ stack. match_from stack (scan_from style 0 (suc at) xs).codes) ≡ Ok p → Behind at (x ∷ xs) (scan_from style 0 (suc at) xs).fault
     byte (held stack) e = left stack (is_empty stack) e
     byte deep e = too-deep at e
     byte wrong e = none e
 
     -- a piece
     step : (stack : List ℕ) (q : Piece) → let s = placed q (record { place = at; byte = x }) (scan_from style (rest q) (suc at) xs) in
-        match_from stack s.codes ≡ ClosedAt p → Behind at (x ∷ xs) s.fault
+        match_from stack s.codes ≡ Ok p → Behind at (x ∷ xs) s.fault
     unfolding match_from
     step stack Code e = byte (taken stack x) e
     step stack (Hidden n) e = further at x xs _ (again (n - 1) stack e)
     step stack OpenQuote e = none e
     step stack OpenComment e = none e
 
-  walked : (xs : List ℕ) (k at : ℕ) (stack : List ℕ) → match_from stack (scan_from style k at xs).codes ≡ ClosedAt p → Behind at xs (scan_from style k at xs).fault
+  walked : (xs : List ℕ) (k at : ℕ) (stack : List ℕ) → match_from stack (scan_from style k at xs).codes ≡ Ok p → Behind at xs (scan_from style k at xs).fault
   unfolding match_from scan_from
   walked [] zero at stack e = none e
   walked [] (suc k) at stack e = none e
@@ -92,30 +92,39 @@ module _ (style : CommentStyle) (p : ℕ) where
 
 module _ (style : CommentStyle) (s : List ℕ) (at p : ℕ) where
   -- behind a match the fault is what it was before
-  pub fault-behind : (stack : List ℕ) → match_from stack (scan_at style s at).codes ≡ ClosedAt p → (scan_at style s at).fault ≡ (scan_at style s (p + 1)).fault
+  pub fault-behind : (stack : List ℕ) → match_from stack (scan_at style s at).codes ≡ Ok p → (scan_at style s at).fault ≡ (scan_at style s (p + 1)).fault
   fault-behind stack e =
       let b = walked style p (drop at s) 0 at stack e in
       let h = b.0 in
       let d : at + (p + 1 - at) ≡ p + 1 = omega arith in
       b.1 ∙ rw (drop-drop (p + 1 - at) at s, d) refl
 
-  clean : (f : Unclosed) (m : Match) → unless_open f m ≡ ClosedAt p → (f ≡ Nothing) × (m ≡ ClosedAt p)
-  clean Nothing m e = (refl, e)
-  clean (Quote q) m e = none style p e
-  clean (Comment q) m e = none style p e
+  clean : (f : Option Unclosed) (m : Match) → unless_open f m ≡ Ok p → (f ≡ None) × (m ≡ Ok p)
+  clean None m e = (refl, e)
+  clean (Some (Quote q)) m e = none style p e
+  clean (Some (Comment q)) m e = none style p e
 
   -- so behind a parenthesis that has its match nothing is unclosed
-  pub clean-behind : matching style at (drop at s) ≡ ClosedAt p → (scan_at style s (p + 1)).fault ≡ Nothing
+  pub clean-behind : matching style at (drop at s) ≡ Ok p → (scan_at style s (p + 1)).fault ≡ None
   unfolding matching
   clean-behind e =
       let c = clean (scan_at style s at).fault (match_from (41 ∷ []) (scan_at style s at).codes) e in
       sym (fault-behind (41 ∷ []) c.1) ∙ c.0
 
 -- where nothing is unclosed the match is that of the brackets alone
-pub match-clean : (style : CommentStyle) (s : List ℕ) (at : ℕ) → (scan_at style s at).fault ≡ Nothing
+pub match-clean : (style : CommentStyle) (s : List ℕ) (at : ℕ) → (scan_at style s at).fault ≡ None
     → matching style at (drop at s) ≡ match_from (41 ∷ []) (scan_at style s at).codes
 unfolding matching
 match-clean style s at e = rw e refl
+
+-- where something is unclosed there is none
+unmatched : (u : Unclosed) (m : Match) → unless_open (Some u) m ≡ Err Unmatched
+unmatched (Quote p) m = refl
+unmatched (Comment p) m = refl
+
+pub match-unclosed : (style : CommentStyle) (s : List ℕ) (at : ℕ) (u : Unclosed) → (scan_at style s at).fault ≡ Some u → matching style at (drop at s) ≡ Err Unmatched
+unfolding matching
+match-unclosed style s at u e = rw e (unmatched u (match_from (41 ∷ []) (scan_at style s at).codes))
 
 -- a run of plain bytes keeps the fault
 module _ (style : CommentStyle) (q : ℕ → Bool) (plain : (b : ℕ) → q b ≡ true → is_plain b ≡ true) where

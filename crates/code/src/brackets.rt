@@ -154,6 +154,7 @@ impl OpenBrackets {
     }
 
     // What a byte of code does, by the three pairs.
+    #[tactic(auto, unfolding(crate::specs::Bracket::taken))]
     pub fn take(&mut self, b: u8) -> Result<(), BracketError>
         ensures { outcome result self.new ≡ taken self.old b }
     {

@@ -1,0 +1,10 @@
+-- `code::first_unclosed`: a turn passes over one piece, and the fault of what is left stays the same.
+use Rattle.std.proofs.Common.{◌≡◌, ◌-◌, ◌≤◌, length}
+use Rattle.code.specs.Code.{scan_at}
+use Rattle.code.proofs.code.first_unclosed.Given as goal
+
+abbrev pub invariant-loop-i : goal.invariant-loop-i
+invariant-loop-i l = record { upper : l.i ≤ length l.text; same : (scan_at l.style l.text l.i).fault ≡ (scan_at l.style l.text l.from).fault }
+
+abbrev pub decreases-loop-i : goal.decreases-loop-i
+decreases-loop-i l = length l.text - l.i
