@@ -105,7 +105,7 @@ module _ (style : CommentStyle) (s : List ℕ) where
       by_cases (eqb j 0)
       (λ t. rw (eqb-true j 0 t, add-zero at) (and_left (is_dull (get_or s at 0)) (dulls s (at + 1) n) f))
       (λ t. let k : at + 1 + (j - 1) ≡ at + j = omega (arith, eqb-false j 0 t) in
-          rw k at (dulls-told n (at + 1) (omega arith) (and_right (is_dull (get_or s at 0)) (dulls s (at + 1) n) f) (j - 1) (omega (arith, eqb-false j 0 t))))
+      rw k at (dulls-told n (at + 1) (omega arith) (and_right (is_dull (get_or s at 0)) (dulls s (at + 1) n) f) (j - 1) (omega (arith, eqb-false j 0 t))))
 
   -- eight of them: all marks are that of the place behind them, and its flags are those of the first and the second
   pub dull-octet : (at : ℕ) (f : Flags) → at + 8 ≤ length s → dulls s at 8 ≡ true → f ≡ flags_at style s (at + 8)

@@ -4,12 +4,11 @@ use mathlib.Core.Path.{◌≡◌, refl, ap, ◌∙◌}
 use mathlib.Core.Bool.{Bool, true, false, cond, not, ◌&&◌, ◌||◌}
 use Rattle.std.specs.Prelude.{Option, Some, None, is_none}
 use Rattle.std.proofs.Common.{◌⊎◌, inl, inr}
-use mathlib.Core.List.{List, [], ◌∷◌}
+use mathlib.Core.List.{List}
 use Prim.Native.Nat.{ℕ, zero, suc, ◌+◌, ◌-◌, ◌*◌, ◌/◌, ◌%◌, ◌^◌, ◌<◌, ◌≤◌}
 use native.Mathlib.Nat.{add-zero, pow-zero, pow-succ', mul_assoc, div-div-eq-div-mul, div-one}
 use native.Mathlib.Numerals.{add-one}
 use native.Mathlib.Omega.{arith}
-use borrow.Author.Tests.{eqb-true, not-false}
 use mir.Val.{bool_byte}
 use lib.Dec.{eqb}
 use lib.Pow.{pow_pos, pow_mono}
@@ -20,7 +19,7 @@ use Rattle.code.specs.declared.CommentStyle.{CommentStyle}
 use Rattle.code.specs.declared.Flags.{Flags}
 use Rattle.code.specs.declared.Near.{Near}
 use Rattle.code.specs.declared.Piece.TheVariants.{Code, Hidden}
-use Rattle.code.specs.Code.{Scan, more, hides_next, literal, block_end, quoted, is_c_like, is_fortran, commented, slashed, banged, piece, is_plain, scan_at}
+use Rattle.code.specs.Code.{Scan, more, hides_next, literal, block_end, quoted, is_c_like, is_fortran, commented, slashed, banged, piece}
 use Rattle.code.specs.Marks.{clean, ends_clean, quote_clean, block_clean, line_clean, past_end, flags_at, near_at, marks_from, Marked}
 use Rattle.code.proofs.Laws.{drop_at, scan-code, scan-hidden, scan-quote, scan-comment, scan-end, literal-both, literal-closed, literal-plain, literal-end, block_closed, block-plain, block_none, slash-block, slash-line, slash-code, bang-line, bang-code, piece_is}
 

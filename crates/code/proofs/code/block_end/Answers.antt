@@ -14,9 +14,9 @@ loop-i-preserved c =
     sym
     (block-plain c.args.text.now c.loop-i.i c.loop-i-test.true
     (elim c.else-text-i-eq42.branch [
-      else-text-i-eq42-via-then-text-i-eq42+else-byte_at-eq47 w ↦
+      | else-text-i-eq42-via-then-text-i-eq42+else-byte_at-eq47 w ↦
           rw (w.if-text-i-eq42.true, ne_eqb _ _ (rw w.byte_at.ensures at w.if-byte_at-eq47.false)) refl
-    | else-text-i-eq42-via-else-text-i-eq42 w ↦ rw (ne_eqb _ _ w.if-text-i-eq42.false) refl
+      | else-text-i-eq42-via-else-text-i-eq42 w ↦ rw (ne_eqb _ _ w.if-text-i-eq42.false) refl
     ]))
     ∙ c.loop-i.invariant
 

@@ -21,7 +21,7 @@ returns-else-is_fortran c =
     ∙ sym
     (at-bang-else _ _ _ i.0 i.1
     (elim c.else-is_fortran.branch [
-      else-is_fortran-via-then-is_fortran+else-byte_at-ne36 w ↦
+      | else-is_fortran-via-then-is_fortran+else-byte_at-ne36 w ↦
           rw (sym f ∙ w.if-is_fortran.true, eq-eqb _ _ (sym w.byte_at.ensures ∙ w.if-byte_at-ne36.false)) refl
-    | else-is_fortran-via-else-is_fortran w ↦ rw (sym f ∙ w.if-is_fortran.false) refl
+      | else-is_fortran-via-else-is_fortran w ↦ rw (sym f ∙ w.if-is_fortran.false) refl
     ]))

@@ -1,6 +1,6 @@
 -- `marks::at_slash`: each way is a law of the marks.
 use Rattle.std.proofs.Common.{rules, refl, sym, ◌∙◌}
-use borrow.Author.Tests.{eq-eqb, ne_eqb}
+use borrow.Author.Tests.{eq-eqb}
 use Rattle.code.proofs.MarkLaws.{at-slash-star, at-slash-slash, at-slash-else, one-code, two-block, two-line}
 use Rattle.code.proofs.marks.at_slash.Goals as goal
 

@@ -2,7 +2,7 @@
 use Rattle.std.proofs.Common.{◌≡◌, ◌+◌, ◌*◌, ◌-◌, ◌<◌, ◌≤◌, ℕ, List, ap, refl, arith}
 use Rattle.code.specs.declared.CommentStyle.{CommentStyle}
 use Rattle.code.specs.declared.MarkBits.{MarkBits}
-use Rattle.code.specs.Marks.{marks_from, near_at}
+use Rattle.code.specs.Marks.{marks_from}
 use Rattle.code.proofs.MarkLaws.{marks-eight, marks-fit}
 use Rattle.code.proofs.marks.cell.Goals as goal
 
@@ -46,5 +46,5 @@ loop-k-preserved c =
       upper = omega arith;
       flags = ap (λ (m : MarkBits). m.near) c.octet-eight.ensures;
       marks = packed a.style a.text.now a.at k c.loop-k.bits c.octet-eight.result.bits c.loop-k-test.true i.upper i.marks
-      (ap (λ (m : MarkBits). m.bits) c.octet-eight.ensures);
+          (ap (λ (m : MarkBits). m.bits) c.octet-eight.ensures);
     }

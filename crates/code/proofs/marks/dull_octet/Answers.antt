@@ -1,7 +1,5 @@
 -- `marks::dull_octet`: dull bytes keep the flags, so all eight marks are alike.
-use Rattle.std.proofs.Common.{◌≡◌, ◌+◌, cond, refl, sym, ap, ◌∙◌, arith}
-use Rattle.code.specs.Marks.{flags_at, near_at, marked_from}
-use Rattle.code.proofs.MarkLaws.{flag-code}
+use Rattle.std.proofs.Common.{◌≡◌, cond, sym, ap}
 use Rattle.code.proofs.DullLaws.{dull-octet}
 use Rattle.code.proofs.marks.dull_octet.Goals as goal
 use Rattle.code.proofs.marks.dull_octet.Goals.{then-near, else-near}
@@ -10,5 +8,5 @@ pub returns : goal.returns
 returns c =
     let i = c.requires.at_in_bounds in
     let e : c.if-near.result ≡ cond c.args.near.one.code 255 0 =
-        elim c.if-near.branch [ then-near w ↦ rw (w.if-near.true) w.result-is | else-near w ↦ rw (w.if-near.false) w.result-is ] in
+    elim c.if-near.branch [ then-near w ↦ rw (w.if-near.true) w.result-is | else-near w ↦ rw (w.if-near.false) w.result-is ] in
     rw e (sym (dull-octet c.args.style c.args.text.now c.args.at c.args.near.one i.0 i.1 (ap (λ n. n.one) c.requires.near_value)))

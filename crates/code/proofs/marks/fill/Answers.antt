@@ -1,5 +1,5 @@
 -- `marks::fill`: behind the text stand the flags of its end, and each cell takes those of the one behind it.
-use Rattle.std.proofs.Common.{◌≡◌, ◌+◌, ◌*◌, ◌-◌, refl, sym, arith}
+use Rattle.std.proofs.Common.{◌≡◌, ◌+◌, ◌*◌, ◌-◌, sym, arith}
 use Rattle.code.proofs.MarkLaws.{near-past}
 use Rattle.code.proofs.marks.fill.Goals as goal
 

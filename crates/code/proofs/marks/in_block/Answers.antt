@@ -1,6 +1,6 @@
 -- `marks::in_block`: each way is a law of the marks.
 use Rattle.std.proofs.Common.{refl, sym, ◌∙◌}
-use borrow.Author.Tests.{eq-eqb, ne_eqb}
+use borrow.Author.Tests.{ne_eqb}
 use Rattle.code.proofs.MarkLaws.{block-over, block_goes, one-block, two-code}
 use Rattle.code.proofs.marks.in_block.Goals as goal
 use Rattle.code.proofs.marks.in_block.Goals.{else-text-at-eq42-via-then-text-at-eq42+else-byte_at-eq47, else-text-at-eq42-via-else-text-at-eq42}
@@ -16,7 +16,7 @@ returns-else-text-at-eq42 c =
     ∙ sym
     (block_goes _ _ _ c.requires.at_in_bounds
     (elim c.else-text-at-eq42.branch [
-      else-text-at-eq42-via-then-text-at-eq42+else-byte_at-eq47 w ↦
+      | else-text-at-eq42-via-then-text-at-eq42+else-byte_at-eq47 w ↦
           rw (w.if-text-at-eq42.true, ne_eqb _ _ (rw w.byte_at.ensures at w.if-byte_at-eq47.false)) refl
-    | else-text-at-eq42-via-else-text-at-eq42 w ↦ rw (ne_eqb _ _ w.if-text-at-eq42.false) refl
+      | else-text-at-eq42-via-else-text-at-eq42 w ↦ rw (ne_eqb _ _ w.if-text-at-eq42.false) refl
     ]))

@@ -1,7 +1,7 @@
 -- `marks::mixed_octet`: a place more is the lowest mark.
 use Rattle.std.proofs.Common.{◌≡◌, ◌+◌, ◌*◌, ◌-◌, ◌<◌, ◌≤◌, ℕ, List, add-zero, refl, arith}
 use Rattle.code.specs.declared.CommentStyle.{CommentStyle}
-use Rattle.code.specs.Marks.{marks_from, near_at}
+use Rattle.code.specs.Marks.{marks_from}
 use Rattle.code.proofs.MarkLaws.{mark, mark-is, marks-one, marks-fit, flags-one}
 use Rattle.code.proofs.marks.mixed_octet.Goals as goal
 

@@ -1,6 +1,5 @@
 -- `matching::match_open`: what a byte of code does to the open brackets is told by `matched`, and is a law of the match.
-use Rattle.std.proofs.Common.{◌≡◌, false, true, sym, ap, ◌∙◌, arith}
-use Rattle.code.specs.Bracket.{is_empty}
+use Rattle.std.proofs.Common.{sym, ◌∙◌, arith}
 use Rattle.code.proofs.MatchLaws.{match-end, match-goes, match-plain, match-closed, match-wrong, match-deep}
 use Rattle.code.proofs.matching.match_open.Goals as goal
 use Rattle.code.proofs.matching.match_open.Goals.{then-is_one+in-Ok+else-is_empty, else-is_one}
@@ -26,13 +25,13 @@ loop-i-preserved c =
     let h = c.loop-i-test.true in
     let n = c.next_code-i-in-loop-i.ensures.from_value in
     elim c.if-is_one.branch [
-      then-is_one+in-Ok+else-is_empty w ↦
+      | then-is_one+in-Ok+else-is_empty w ↦
           let e = rw w.in-Ok.is at w.take.ensures in
           let s = sym w.is_empty.ensures ∙ w.if-is_empty.false in
           record { lower = omega arith; upper = omega arith; some = rw w.open-is s; same = rw w.open-is (sym (match-goes _ _ _ _ h _ _ (sym e) s n) ∙ i.same) }
-    | else-is_one w ↦
-        let p = sym c.is_one.ensures ∙ w.if-is_one.false in
-        record { lower = omega arith; upper = omega arith; some = rw w.open-is i.some; same = rw w.open-is (sym (match-plain _ _ _ _ h _ p i.some n) ∙ i.same) }
+      | else-is_one w ↦
+          let p = sym c.is_one.ensures ∙ w.if-is_one.false in
+          record { lower = omega arith; upper = omega arith; some = rw w.open-is i.some; same = rw w.open-is (sym (match-plain _ _ _ _ h _ p i.some n) ∙ i.same) }
     ]
 
 pub returns-clause-value : goal.returns-clause-value
