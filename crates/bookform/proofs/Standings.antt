@@ -3,13 +3,14 @@
 use mathlib.Core.Path.{◌≡◌, refl, ◌∙◌}
 use mathlib.Core.Bool.{Bool, true, false, not, ◌&&◌, ◌||◌}
 use mathlib.Core.List.{List}
-use Prim.Native.Nat.{ℕ, zero, suc, ◌+◌, ◌-◌, ◌≤◌}
+use Prim.Native.Nat.{ℕ, zero, suc, ◌+◌, ◌-◌, ◌<◌, ◌≤◌}
 use native.Mathlib.Nat.{add-zero}
 use native.Mathlib.Omega.{arith}
-use lib.ListN.{length, drop, get_or}
+use lib.ListN.{length, take, drop, get_or, length-drop}
 use lib.Dec.{eqb, ltb}
 use borrow.Author.Tests.{ltb-true, ltb-false}
 use Rattle.std.specs.Prelude.{Some}
+use Rattle.std.proofs.lemmas.List.{get_or-take, get_or-drop, length-take-le}
 use Rattle.ascii.specs.Ascii.{is_word, is_digit, is_letter}
 use Rattle.ascii.proofs.Flags.{by_cases, and_left, and_right}
 use Rattle.bookform.specs.declared.Expect.{Expect}
@@ -48,6 +49,13 @@ module _ (between : ℕ) (bs : List ℕ) (from : ℕ) where
 
   pub standing-more : (to : ℕ) → stands between (get_or bs (to - 1) 0) (get_or bs to 0) ≡ true → Standing between bs from to → Standing between bs from (to + 1)
   standing-more to t s i f g = by_cases (ltb i to) (λ l. s i f (ltb-true i to l)) (λ l. let e : i ≡ to = omega (arith, ltb-false i to l) in rw e t)
+
+  -- one byte more, behind one of the name
+  pub standing-next : (to : ℕ) → is_of_name between (get_or bs (to - 1) 0) ≡ true → stands_behind between (get_or bs (to - 1) 0) (get_or bs to 0) ≡ true
+      → Standing between bs from to → (is_of_name between (get_or bs to 0) ≡ true) × Standing between bs from (to + 1)
+  standing-next to f t s =
+      let g = behind-stands between (get_or bs (to - 1) 0) (get_or bs to 0) f t in
+      (stands_of between (get_or bs (to - 1) 0) (get_or bs to 0) g, standing-more to g s)
 
 -- two runs that meet or overlap
 pub standing-both : (between : ℕ) (bs : List ℕ) (from a b to : ℕ) → a ≤ b → Standing between bs from b → Standing between bs a to → Standing between bs from to
@@ -108,6 +116,29 @@ directive-reads d c = record { goes = λ k w b t. rw t; ends = λ w b t. rw t }
 clause-reads : (c : ℕ) → Reads 95 (λ k w. ClauseName k c) (clauses_left c)
 clause-reads c = record { goes = λ k w b t. rw (word_of w b t); ends = λ w b t. rw t }
 
+-- a name as it stands in the book
+record NameAt (between : ℕ) (bs : List ℕ) (start end : ℕ) : Type 0 where
+  first : is_word (get_or bs start 0) ≡ true
+  inner : Standing between bs (start + 1) end
+  last : is_word (get_or bs (end - 1) 0) ≡ true
+
+module _ (between : ℕ) (bs : List ℕ) (start end : ℕ) (l : start < end) (h : end ≤ length bs) where
+  abbrev name : List ℕ
+  name = take (end - start) (drop start bs)
+
+  long : length name ≡ end - start
+  long = let a : length (drop start bs) ≡ length bs - start = length-drop start bs in length-take-le (end - start) (drop start bs) (omega arith)
+
+  byte : (i j : ℕ) → i < end - start → j ≡ start + i → get_or name i 0 ≡ get_or bs j 0
+  byte i j k e = rw e (get_or-take (end - start) (drop start bs) i 0 k ∙ get_or-drop start bs i 0)
+
+  name-at : IsName between name → NameAt between bs start end
+  name-at n = record {
+    first = rw (byte 0 start (omega arith) (omega arith)) at n.first;
+    inner = λ i f g. rw (byte (i - start - 1) (i - 1) (omega arith) (omega arith), byte (i - start) i (omega arith) (omega arith)) at (n.inner (i - start) (omega arith) (omega (arith, long)));
+    last = rw (long, byte (end - start - 1) (end - 1) (omega arith) (omega arith)) at n.last;
+  }
+
 module _ (bs : List ℕ) (between : ℕ) (state : ℕ → Bool → Expect) (behind : Expect) (r : Reads between state behind) where
   -- k bytes of a name behind its first, and its last one, lead to what comes behind it
   passes : (k at to : ℕ) → to ≡ at + k + 1 → to ≤ length bs → Standing between bs at (at + k) → is_word (get_or bs (at + k) 0) ≡ true
@@ -122,7 +153,7 @@ module _ (bs : List ℕ) (between : ℕ) (state : ℕ → Bool → Expect) (behi
       ∙ rw p at (passes k (at + 1) to (omega arith) h (λ i f g. s i (omega arith) (omega arith)) (rw q at l))
 
   -- a whole name
-  whole : (k at to : ℕ) → to ≡ at + k + 1 → to ≤ length bs → IsName between bs at to → bad_from (state k false) at (drop at bs) ≡ bad_from behind to (drop to bs)
+  whole : (k at to : ℕ) → to ≡ at + k + 1 → to ≤ length bs → NameAt between bs at to → bad_from (state k false) at (drop at bs) ≡ bad_from behind to (drop to bs)
   whole zero at to e h n =
       let q : to ≡ at + 1 = omega arith in
       rw q (bad-later bs (state zero false) at behind (omega arith) (r.ends false (get_or bs at 0) n.first))
@@ -142,7 +173,7 @@ module _ (bs : List ℕ) where
       record {
         within = l;
         same = λ n c. bad-later bs (DirectiveLength n c) at (DirectiveName (get_or bs at 0 - 1) false n c) (omega arith) (rw h.sized refl)
-            ∙ whole bs 32 (λ k w. DirectiveName k w n c) (directives_left n c) (directive-reads n c) (get_or bs at 0 - 1) (at + 1) end (omega arith) l h.name;
+            ∙ whole bs 32 (λ k w. DirectiveName k w n c) (directives_left n c) (directive-reads n c) (get_or bs at 0 - 1) (at + 1) end (omega arith) l (name-at 32 bs (at + 1) end (omega arith) l h.name);
       }
 
   pub clause-passed : (at end : ℕ) → is_known (rule_for (get_or bs at 0)) ≡ true → NameEnds 95 (at + 1) end bs → Passed 1 at end bs
@@ -154,5 +185,5 @@ module _ (bs : List ℕ) where
         within = l;
         same = λ n c. bad-later bs (Rule n) at (ClauseLength n) (omega arith) (rw k refl)
             ∙ bad-later bs (ClauseLength n) (at + 1) (ClauseName (get_or bs (at + 1) 0 - 1) n) (omega arith) (rw h.sized refl)
-            ∙ whole bs 95 (λ k w. ClauseName k n) (clauses_left n) (clause-reads n) (get_or bs (at + 1) 0 - 1) (at + 1 + 1) end (omega arith) l h.name;
+            ∙ whole bs 95 (λ k w. ClauseName k n) (clauses_left n) (clause-reads n) (get_or bs (at + 1) 0 - 1) (at + 1 + 1) end (omega arith) l (name-at 95 bs (at + 1 + 1) end (omega arith) l h.name);
       }

@@ -1,7 +1,7 @@
 -- Laws of a book's form: what a count of entries or of bytes waits for, and the first bad byte at a place, in the terms of a loop.
 -- Assumes nothing.
 use mathlib.Core.Path.{◌≡◌, refl}
-use mathlib.Core.Bool.{false, Bool, true, ◌||◌, ◌&&◌}
+use mathlib.Core.Bool.{false, Bool, true, cond, ◌||◌, ◌&&◌}
 use Rattle.std.specs.Prelude.{Option, Some, None}
 use mathlib.Core.List.{List}
 use Prim.Native.Nat.{ℕ, zero, suc, ◌+◌, ◌-◌, ◌<◌, ◌≤◌}
@@ -9,13 +9,13 @@ use native.Mathlib.Numerals.{add-one, unary_clauses}
 use native.Mathlib.Omega.{arith}
 use lib.ListN.{length, drop, get_or, drop_of_length-le}
 use lib.Seq.{drop-cons}
-use lib.Dec.{eqb, leb}
-use borrow.Author.Tests.{leb-true}
+use lib.Dec.{eqb, ltb, leb}
+use borrow.Author.Tests.{leb-true, ltb-true, ltb-false, lt-ltb}
 use Rattle.ascii.specs.Ascii.{is_word}
-use Rattle.ascii.proofs.Flags.{and_left}
+use Rattle.ascii.proofs.Flags.{by_cases, and_left}
 use Rattle.bookform.specs.declared.Expect.{Expect}
-use Rattle.bookform.specs.declared.Expect.TheVariants.{DirectiveLength, DirectiveName, Rule, ClauseName}
-use Rattle.bookform.specs.Format.{is_length, clauses_left, directives_left, when_good, name_step, word_step, stepped, ended_at, bad_from}
+use Rattle.bookform.specs.declared.Expect.TheVariants.{HeaderByte, ClauseCount, DirectiveLength, DirectiveName, Rule, ClauseName}
+use Rattle.bookform.specs.Format.{is_header, is_length, clauses_left, directives_left, when_good, name_step, word_step, stepped, ended_at, bad_from}
 
 -- what cannot be, and what a good byte leads to
 pub never : {X : Type 0} (p : ℕ) → ◌≡◌ {A = Option ℕ} (Some p) None → X
@@ -61,3 +61,20 @@ module _ (bs : List ℕ) (e : Expect) (at : ℕ) where
   pub bad-end : length bs ≤ at → bad_from e at (drop at bs) ≡ ended_at e at
   unfolding bad_from
   bad-end h = rw (drop_of_length-le bs h)
+
+-- the header byte by byte: what is waited for at each of its places, and once its last byte is read
+abbrev pub header_state : List ℕ → ℕ → Expect
+header_state bs i = cond (ltb i 8) (HeaderByte i) (ClauseCount (get_or bs 7 0))
+
+module _ (bs : List ℕ) (long : 9 ≤ length bs) where
+  pub header-next : (i : ℕ) → i < 8 → is_header i (get_or bs i 0) ≡ true
+      → bad_from (header_state bs i) i (drop i bs) ≡ bad_from (header_state bs (i + 1)) (i + 1) (drop (i + 1) bs)
+  header-next i h t =
+      by_cases (ltb i 7)
+      (λ k. let m = ltb-true i 7 k in
+      rw (lt-ltb i 8 h, lt-ltb (i + 1) 8 (omega arith)) (bad-later bs (HeaderByte i) i (HeaderByte (i + 1)) (omega arith) (rw (t, k) refl)))
+      (λ k. let e : i ≡ 7 = omega (arith, ltb-false i 7 k) in
+      rw e (bad-later bs (HeaderByte 7) 7 (ClauseCount (get_or bs 7 0)) (omega arith) (rw (rw e at t) refl)))
+
+  pub header-end : bad_from (header_state bs 8) 8 (drop 8 bs) ≡ bad_from (directives_left (get_or bs 7 0) (get_or bs 8 0)) 9 (drop 9 bs)
+  header-end = bad-later bs (ClauseCount (get_or bs 7 0)) 8 (directives_left (get_or bs 7 0) (get_or bs 8 0)) (omega arith) refl

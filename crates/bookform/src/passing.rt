@@ -22,39 +22,40 @@ fn stands_behind(before: u8, b: u8, between: u8) -> bool
     is_of_word(b) | ((b == between) & (before != between))
 }
 
-// Whether each of the eight bytes from a place on may stand behind the one before it.
-fn eight_stand(book: &[u8], at: usize, between: u8) -> bool
-    requires { (1 ≤ at) × (at + 8 ≤ length book.now) × (is_of_name between (get_or book.now (at - 1) 0) ≡ true) }
-    ensures { result ≡ true → Standing between book.now at (at + 8) }
+// Whether each of the eight bytes of a name from a place on may stand behind the one before it. All are asked and no branch is between them,
+// so that the compiler asks them at once.
+fn eight_stand(name: &[u8], at: usize, between: u8) -> bool
+    requires { (1 ≤ at) × (at + 8 ≤ length name.now) × (is_of_name between (get_or name.now (at - 1) 0) ≡ true) }
+    ensures { result ≡ true → Standing between name.now at (at + 8) }
 {
-    let a = book[at];
-    let b = book[at + 1];
-    let c = book[at + 2];
-    let d = book[at + 3];
-    let e = book[at + 4];
-    let f = book[at + 5];
-    let g = book[at + 6];
-    stands_behind(book[at - 1], a, between)
+    let a = name[at];
+    let b = name[at + 1];
+    let c = name[at + 2];
+    let d = name[at + 3];
+    let e = name[at + 4];
+    let f = name[at + 5];
+    let g = name[at + 6];
+    stands_behind(name[at - 1], a, between)
         & stands_behind(a, b, between)
         & stands_behind(b, c, between)
         & stands_behind(c, d, between)
         & stands_behind(d, e, between)
         & stands_behind(e, f, between)
         & stands_behind(f, g, between)
-        & stands_behind(g, book[at + 7], between)
+        & stands_behind(g, name[at + 7], between)
 }
 
-// The same up to a place, behind a byte of a word, by eights; the last eight may overlap those before. They are asked in one place, so that the
-// compiler draws the question in.
-fn eights_stand(book: &[u8], from: usize, to: usize, between: u8) -> bool
-    requires { (1 ≤ from) × (from + 8 ≤ to) × (to ≤ length book.now) × (is_word (get_or book.now (from - 1) 0) ≡ true) }
-    ensures { result ≡ true → Standing between book.now from to }
+// Whether each byte of a name behind its first may stand behind the one before it, by eights; the last eight may overlap those before. They are
+// asked in one place, so that the compiler draws the question in.
+fn eights_stand(name: &[u8], between: u8) -> bool
+    requires { (9 ≤ length name.now) × (is_word (get_or name.now 0 0) ≡ true) }
+    ensures { result ≡ true → Standing between name.now 1 (length name.now) }
 {
-    let last = to - 8;
-    let mut i = from;
-    while i < to {
+    let last = name.len() - 8;
+    let mut i = 1;
+    while i < name.len() {
         let at = i.min(last);
-        if !eight_stand(book, at, between) {
+        if !eight_stand(name, at, between) {
             return false;
         }
         i = at + 8;
@@ -62,13 +63,13 @@ fn eights_stand(book: &[u8], from: usize, to: usize, between: u8) -> bool
     true
 }
 
-// The same byte by byte, behind a byte of a word.
-fn each_stands(book: &[u8], from: usize, to: usize, between: u8) -> bool
-    requires { (1 ≤ from) × (to ≤ length book.now) × (is_word (get_or book.now (from - 1) 0) ≡ true) }
-    ensures { result ≡ true → Standing between book.now from to }
+// The same byte by byte.
+fn each_stands(name: &[u8], between: u8) -> bool
+    requires { (1 ≤ length name.now) × (is_word (get_or name.now 0 0) ≡ true) }
+    ensures { result ≡ true → Standing between name.now 1 (length name.now) }
 {
-    let mut before = book[from - 1];
-    for b in &book[from..to] {
+    let mut before = name[0];
+    for b in &name[1..] {
         if !stands_behind(before, *b, between) {
             return false;
         }
@@ -78,23 +79,22 @@ fn each_stands(book: &[u8], from: usize, to: usize, between: u8) -> bool
 }
 
 // The same, however many there are.
-fn all_stand(book: &[u8], from: usize, to: usize, between: u8) -> bool
-    requires { (1 ≤ from) × (from ≤ length book.now) × (to ≤ length book.now) × (is_word (get_or book.now (from - 1) 0) ≡ true) }
-    ensures { result ≡ true → Standing between book.now from to }
+fn all_stand(name: &[u8], between: u8) -> bool
+    requires { (1 ≤ length name.now) × (is_word (get_or name.now 0 0) ≡ true) }
+    ensures { result ≡ true → Standing between name.now 1 (length name.now) }
 {
-    if to < from + 8 {
-        return each_stands(book, from, to, between);
+    if name.len() < 9 {
+        return each_stands(name, between);
     }
-    eights_stand(book, from, to, between)
+    eights_stand(name, between)
 }
 
-// Whether a name stands from a place up to another: words, and between two of them one byte.
-fn is_name(book: &[u8], start: usize, end: usize, between: u8) -> bool
-    requires { (start < end) × (end ≤ length book.now) }
-    ensures { result ≡ true → IsName between book.now start end }
+// Whether a text is a name: words, and between two of them one byte.
+fn is_name(text: &[u8], between: u8) -> bool
+    requires { 1 ≤ length text.now }
+    ensures { result ≡ true → IsName between text.now }
 {
-    let last = end - 1;
-    is_word(book[start]) && is_word(book[last]) && all_stand(book, start + 1, last, between)
+    is_word(text[0]) && is_word(text[text.len() - 1]) && all_stand(text, between)
 }
 
 // The end of the name behind the length byte at a place, if both are right.
@@ -106,7 +106,7 @@ fn name_end(book: &[u8], place: usize, between: u8) -> Option<usize>
     if is_length(size) && length < book.len() - place {
         let start = place + 1;
         let end = start + length;
-        if is_name(book, start, end, between) {
+        if is_name(&book[start..end], between) {
             return Some(end);
         }
     }
