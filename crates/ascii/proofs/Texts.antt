@@ -10,12 +10,12 @@ use native.Mathlib.Numerals.{add-one}
 use native.Mathlib.Omega.{arith}
 use lib.ListN.{length, take, drop, get_or, length-reverse, length-drop, drop_of_length-le}
 use lib.Seq.{drop-cons, split_at, append_snoc}
-use lib.Dec.{eqb, ltb}
+use lib.Dec.{eqb, ltb, leb}
 use Rattle.std.specs.List.{prefix_len}
 use Rattle.std.proofs.lemmas.List.Sums.{prefix_len_is, suffix_len_is}
-use borrow.Author.Tests.{lt-ltb, le-ltb, ltb-true, eq-eqb, ne_eqb, eqb-true, eqb-false}
+use borrow.Author.Tests.{lt-ltb, le-ltb, leb-true, leb-false, eq-eqb, ne_eqb, eqb-true, eqb-false}
 use Rattle.ascii.specs.declared.Range.{Range}
-use Rattle.ascii.specs.Ascii.{is_trimmed}
+use Rattle.ascii.specs.Ascii.{is_trimmed, is_low}
 use Rattle.ascii.specs.Text.{leading, trimmed, begins, first_high}
 use Rattle.ascii.proofs.Flags.{and_left, and_right, by_cases}
 
@@ -49,6 +49,19 @@ module _ (p : ℕ → Bool) (s : List ℕ) (i : ℕ) where
   pub leading-more : i < length s → p (get_or s i 0) ≡ true → leading p (drop i s) ≡ suc (leading p (drop (i + 1) s))
   unfolding leading
   leading-more h e = rw (add-one, drop-cons s i 0, leading, e)
+
+-- the byte at a place and the k behind it have the property
+module _ (p : ℕ → Bool) (s : List ℕ) (i : ℕ) where
+  abbrev pub have : ℕ → Bool
+  have zero = p (get_or s i 0)
+  have (suc k) = have k && p (get_or s (i + suc k) 0)
+
+  pub leading-past : (k : ℕ) → i + k < length s → have k ≡ true → leading p (drop i s) ≡ suc k + leading p (drop (i + suc k) s)
+  leading-past zero h e = omega (arith, leading-more p s i (omega arith) e)
+  leading-past (suc k) h e =
+      let n : i + suc k + 1 ≡ i + suc (suc k) = omega arith in
+      let m = leading-more p s (i + suc k) h (and_right (have k) (p (get_or s (i + suc k) 0)) e) in
+      omega (arith, leading-past k (omega arith) (and_left (have k) (p (get_or s (i + suc k) 0)) e), rw n at m)
 
 -- a run stops at a byte without the property
 leading-bounded : (p : ℕ → Bool) (ws : List ℕ) (b : ℕ) (vs : List ℕ) → p b ≡ false → leading p (ws ++ b ∷ vs) ≤ length ws
@@ -100,36 +113,27 @@ module _ (f : ℕ → ℕ) (w s : List ℕ) (j i : ℕ) where
   unfolding begins
   begins-next h g = rw (add-one, add-one, drop-cons w j 0, drop-cons s i 0)
 
--- the first byte above 127 is known by the bytes before it
-pub high_is : (at : ℕ) (xs : List ℕ) (n : ℕ) → n < length xs → ((k : ℕ) → k < n → get_or xs k 0 ≤ 127) → 127 < get_or xs n 0 → first_high at xs ≡ Some (at + n)
-unfolding first_high
-high_is at [] n h before here = absurd (omega arith)
-high_is at (x ∷ xs) zero h before here = rw (lt-ltb 127 x here, add-zero)
-high_is at (x ∷ xs) (suc n) h before here =
-    let shift : suc at + n ≡ at + suc n = omega arith in
-    rw (le-ltb 127 x (before 0 (omega arith)), high_is (suc at) xs n (omega arith) (λ k l. before (suc k) (omega arith)) here, shift)
+-- the first byte above 127 is where the run of the others ends
+pub high_some : (at : ℕ) (xs : List ℕ) → leading is_low xs < length xs → first_high at xs ≡ Some (at + leading is_low xs)
+unfolding first_high leading
+high_some at [] h = absurd (omega arith)
+high_some at (x ∷ xs) h = go (leb x 127) refl (high_some (suc at) xs) h
+  where
+    go : (b : Bool) → leb x 127 ≡ b → (leading is_low xs < length xs → first_high (suc at) xs ≡ Some (suc at + leading is_low xs)) → cond b (suc (leading is_low xs)) 0 < suc (length xs)
+        → cond (ltb 127 x) (Some at) (first_high (suc at) xs) ≡ Some (at + cond b (suc (leading is_low xs)) 0)
+    go true e ih h =
+        let shift : suc at + leading is_low xs ≡ at + suc (leading is_low xs) = omega arith in
+        rw (le-ltb 127 x (leb-true x 127 e), ih (omega arith), shift)
+    go false e ih h = rw (lt-ltb 127 x (leb-false x 127 e), add-zero)
 
-pub high_none : (at : ℕ) (xs : List ℕ) → ((k : ℕ) → k < length xs → get_or xs k 0 ≤ 127) → first_high at xs ≡ None
-unfolding first_high
-high_none at [] low = refl
-high_none at (x ∷ xs) low = rw (le-ltb 127 x (low 0 (omega arith)), high_none (suc at) xs (λ k l. low (suc k) (omega arith)))
-
-high-later : (s : List ℕ) (i : ℕ) → i < length s → get_or s i 0 ≤ 127 → first_high i (drop i s) ≡ first_high (i + 1) (drop (i + 1) s)
-unfolding first_high
-high-later s i h g = rw (add-one, drop-cons s i 0, first_high, le-ltb 127 (get_or s i 0) g)
-
--- the k bytes after the one at a place, and that one, are not above 127
-module _ (s : List ℕ) (i : ℕ) where
-  abbrev pub lows : ℕ → Bool
-  lows zero = ltb (get_or s i 0) 128
-  lows (suc k) = lows k && ltb (get_or s (i + suc k) 0) 128
-
-  pub high-past : (k : ℕ) → i + k < length s → lows k ≡ true → first_high i (drop i s) ≡ first_high (i + suc k) (drop (i + suc k) s)
-  high-past zero h e = high-later s i (omega arith) (let l = ltb-true (get_or s i 0) 128 e in omega arith)
-  high-past (suc k) h e =
-      let l = ltb-true (get_or s (i + suc k) 0) 128 (and_right (lows k) (ltb (get_or s (i + suc k) 0) 128) e) in
-      let n : i + suc k + 1 ≡ i + suc (suc k) = omega arith in
-      high-past k (omega arith) (and_left (lows k) (ltb (get_or s (i + suc k) 0) 128) e) ∙ rw n at (high-later s (i + suc k) h (omega arith))
+pub high_none : (at : ℕ) (xs : List ℕ) → length xs ≤ leading is_low xs → first_high at xs ≡ None
+unfolding first_high leading
+high_none at [] h = refl
+high_none at (x ∷ xs) h = go (leb x 127) refl (high_none (suc at) xs) h
+  where
+    go : (b : Bool) → leb x 127 ≡ b → (length xs ≤ leading is_low xs → first_high (suc at) xs ≡ None) → suc (length xs) ≤ cond b (suc (leading is_low xs)) 0 → cond (ltb 127 x) (Some at) (first_high (suc at) xs) ≡ None
+    go true e ih h = rw (le-ltb 127 x (leb-true x 127 e), ih (omega arith))
+    go false e ih h = absurd (omega arith)
 
 -- trimming
 module _ (at : ℕ) (xs : List ℕ) where

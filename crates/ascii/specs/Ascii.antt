@@ -34,6 +34,10 @@ is_letter b = is_upper b || within 97 122 b
 abbrev pub is_word : ℕ → Bool
 is_word b = is_digit b || is_letter b || eqb b 95
 
+-- no "byte above 127"
+abbrev pub is_low : ℕ → Bool
+is_low b = leb b 127
+
 -- what "ignoring case" compares, the lower-case letter of an upper-case one; document 02, P3: "65 to 90 gain 32, every other is kept"
 abbrev pub fold : ℕ → ℕ
 fold b = cond (is_upper b) (b + 32) b

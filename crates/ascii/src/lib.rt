@@ -8,7 +8,7 @@ ghost use Rattle.std.specs.Prelude.{◌≡◌, reverse, ◌++◌, ◌+◌, ◌-�
 ghost use Rattle.ascii.specs.Ascii.{is_trimmed};
 ghost use Rattle.ascii.specs.Text.{leading, trimmed, LentPart, trim_call, begins, first_high, comparing};
 
-use sets::{ByteSet, Trimmed};
+use sets::{ByteSet, Low, Trimmed};
 
 // A range of a text: the place of its first byte and the place after its last.
 #[derive(Clone, Copy, Debug, PartialEq, Eq)]
@@ -37,7 +37,7 @@ pub fn run_end<S: ByteSet>(text: &[u8], from: usize) -> usize
 }
 
 // The end of a text without the bytes that trimming takes off its end.
-fn trimmed_end(text: &[u8]) -> usize
+pub fn trimmed_end(text: &[u8]) -> usize
     ensures { result ≡ length text.now - leading is_trimmed (reverse text.now) }
 {
     match text.iter().rposition(|b| !class::is_trimmed(*b)) {
@@ -113,37 +113,35 @@ pub fn begins_at(text: &[u8], at: usize, word: &[u8], ignore_case: bool) -> bool
     true
 }
 
-// How far a text has no byte above 127, by eights: one branch for eight bytes.
-fn low_eights(text: &[u8]) -> usize
-    ensures text_value { first_high result (drop result text.now) ≡ first_high 0 text.now }
-    ensures upper_bound { result ≤ length text.now }
+// The same for a long run of a set whose question is a mere comparison: one branch for eight bytes.
+pub fn long_run_end<S: ByteSet>(text: &[u8], from: usize) -> usize
+    requires { from ≤ length text.now }
+    ensures value { result ≡ from + leading S.holds (drop from text.now) }
+    ensures lower_bound { (from ≤ result) × (result ≤ length text.now) }
 {
-    let mut i = 0;
+    let mut i = from;
+    // in steps of eight: byte by byte it is slower
     while i + 8 <= text.len() {
-        let low = (text[i] < 128)
-            & (text[i + 1] < 128)
-            & (text[i + 2] < 128)
-            & (text[i + 3] < 128)
-            & (text[i + 4] < 128)
-            & (text[i + 5] < 128)
-            & (text[i + 6] < 128)
-            & (text[i + 7] < 128);
-        if low {
-            i += 8;
-        } else {
-            return i;
+        let all = S::has(text[i])
+            & S::has(text[i + 1])
+            & S::has(text[i + 2])
+            & S::has(text[i + 3])
+            & S::has(text[i + 4])
+            & S::has(text[i + 5])
+            & S::has(text[i + 6])
+            & S::has(text[i + 7]);
+        if !all {
+            break;
         }
+        i += 8;
     }
-    i
+    run_end::<S>(text, i)
 }
 
 // The first byte above 127.
 pub fn first_high(text: &[u8]) -> Option<usize>
     ensures { result ≡ first_high 0 text.now }
 {
-    let low = low_eights(text);
-    match text[low..].iter().position(|b| *b > 127) {
-        Some(n) => Some(low + n),
-        None => None,
-    }
+    let low = long_run_end::<Low>(text, 0);
+    if low < text.len() { Some(low) } else { None }
 }

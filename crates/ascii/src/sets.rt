@@ -1,6 +1,6 @@
 // The sets of bytes of which runs are sought, each by its question of a byte.
 ghost use Rattle.std.specs.Prelude.{◌≡◌, ℕ, Bool};
-ghost use Rattle.ascii.specs.Ascii.{is_trimmed, is_space, is_blank, is_word};
+ghost use Rattle.ascii.specs.Ascii.{is_trimmed, is_space, is_blank, is_word, is_low};
 ghost use Rattle.ascii.specs.Text.{is_in_line};
 
 use crate::class;
@@ -22,6 +22,9 @@ pub struct Word;
 
 // All but LF and CR.
 pub struct InLine;
+
+// All up to 127.
+pub struct Low;
 
 impl ByteSet for Trimmed {
     ghost holds = { is_trimmed };
@@ -60,5 +63,13 @@ impl ByteSet for InLine {
 
     fn has(b: u8) -> bool {
         !class::is_eol(b)
+    }
+}
+
+impl ByteSet for Low {
+    ghost holds = { is_low };
+
+    fn has(b: u8) -> bool {
+        b <= 127
     }
 }

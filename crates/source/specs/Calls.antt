@@ -1,12 +1,9 @@
 -- What join alone, map-back and content copy give: the answer, and every lent slot as the call leaves it.
 use Rattle.std.specs.Prelude.{ℕ, suc, Bool, cond, ◌||◌, List, length, get_or, ltb}
-use Rattle.refusal.specs.Answer.{Answer, given, refused, refused_by, unless_fault, admitted, max_length, slots}
+use Rattle.ascii.specs.declared.Range.{Range}
+use Rattle.refusal.specs.Answer.{Answer, given, refused, unless_fault, admitted, max_length, slots}
 use Rattle.lexer.specs.declared.Language.{Language}
 use Rattle.lexer.specs.declared.Prefix.{Prefix}
-use Rattle.source.specs.declared.Span.{Span}
-use Rattle.source.specs.declared.JoinAnswer.{JoinAnswer}
-use Rattle.source.specs.declared.SpanAnswer.{SpanAnswer}
-use Rattle.source.specs.declared.CopyAnswer.{CopyAnswer}
 use Rattle.validation.specs.Validation.{fault}
 use Rattle.source.specs.Joining.{joined_text, joined_map, collapsed}
 
@@ -30,22 +27,14 @@ join_call l p line text_slots map_slots =
     let answer = join_answer l p line text_slots map_slots in
     record { answer = answer; text = slots 0 text_slots (λ _. joined_text l line) answer; map = slots 0 map_slots (λ _. joined_map l line) answer }
 
-abbrev pub join_gives : JoinAnswer → Answer ℕ
-join_gives (JoinAnswer.Joined n) = given n
-join_gives (JoinAnswer.Refused r) = refused_by r
-
 -- "Map-back (`span`) gives the map's two entries at a joined range's ends." It "takes a map and text length that it checks itself:
 -- a length over 16,384 is 1, a map shorter than the length plus one is 3"; 19 "with start above end, or end past the text; always at 0"
-unfoldable pub span_answer : List ℕ → ℕ → ℕ → ℕ → Answer Span
+unfoldable pub span_answer : List ℕ → ℕ → ℕ → ℕ → Answer Range
 span_answer map text_length start end =
     cond (ltb max_length text_length) (refused 1 max_length)
     (cond (ltb (length map) (suc text_length)) (refused 3 0)
     (cond (ltb end start || ltb text_length end) (refused 19 0)
     (given (record { start = get_or map start 0; end = get_or map end 0 }))))
-
-abbrev pub span_gives : SpanAnswer → Answer Span
-span_gives (SpanAnswer.Found s) = given s
-span_gives (SpanAnswer.Refused r) = refused_by r
 
 -- Content copy: the copy's length, "into a buffer at least that long"
 pub record CopyCall : Type 0 where
@@ -56,7 +45,3 @@ unfoldable pub copy_call : List ℕ → ℕ → CopyCall
 copy_call content size =
     let answer = admitted content (cond (ltb size (length content)) (refused 3 0) (given (length (collapsed content)))) in
     record { answer = answer; copy = slots 0 size (λ _. collapsed content) answer }
-
-abbrev pub copy_gives : CopyAnswer → Answer ℕ
-copy_gives (CopyAnswer.Copied n) = given n
-copy_gives (CopyAnswer.Refused r) = refused_by r

@@ -1,6 +1,10 @@
 -- A run of a content's bytes that all stay in its copy.
-use Rattle.std.specs.Prelude.{ℕ, ◌-◌, ◌≤◌, ◌≡◌, List, ◌++◌, map, length, take, drop}
+use Rattle.std.specs.Prelude.{ℕ, ◌-◌, ◌≤◌, ◌≡◌, Bool, not, ◌&&◌, eqb, List, ◌++◌, map, length, take, drop}
 use Rattle.source.specs.Joining.{kept_from, any_cut, byte_of}
+
+-- a byte that begins no continuation: no `\` or `&`
+abbrev pub is_plain : ℕ → Bool
+is_plain b = not (eqb b 92) && not (eqb b 38)
 
 -- what stays from a place on
 abbrev pub staying : List ℕ → ℕ → List ℕ

@@ -1,21 +1,14 @@
 -- What is checked before a call writes: the rows of the table up to 6, as a verdict.
-use Rattle.std.specs.Prelude.{ℕ, cond, List, length, ltb}
+use Rattle.std.specs.Prelude.{ℕ, cond, List, length, ltb, Err}
 use Rattle.refusal.specs.declared.Reason.TheVariants.{ShortBuffer, InvalidLine}
-use Rattle.refusal.specs.declared.Verdict.{Verdict}
-use Rattle.refusal.specs.declared.Verdict.TheVariants.{Fine, Bad}
-use Rattle.refusal.specs.Verdict.{fault_by, text_verdict}
+use Rattle.refusal.specs.Verdict.{Verdict, fine, refusal_at, fault_by, and_check, text_verdict}
 use Rattle.lexer.specs.declared.Language.{Language}
 use Rattle.lexer.specs.declared.Prefix.{Prefix}
 use Rattle.validation.specs.Validation.{fault}
 use Rattle.source.specs.Calls.{is_short}
 
--- a check, and the check after it
-abbrev pub and_check : Verdict → Verdict → Verdict
-and_check Fine v = v
-and_check (Bad r) v = Bad r
-
 abbrev pub short_buffer : Verdict
-short_buffer = Bad (record { reason = ShortBuffer; place = 0 })
+short_buffer = Err (refusal_at ShortBuffer 0)
 
 -- join alone: rows 1, 2, 3 and 6
 unfoldable pub join_verdict : Language → Prefix → List ℕ → ℕ → ℕ → Verdict
@@ -24,4 +17,4 @@ join_verdict l p line text_slots map_slots =
 
 -- content copy: rows 1, 2 and 3
 unfoldable pub copy_verdict : List ℕ → ℕ → Verdict
-copy_verdict content size = and_check (text_verdict content) (cond (ltb size (length content)) short_buffer Fine)
+copy_verdict content size = and_check (text_verdict content) (cond (ltb size (length content)) short_buffer fine)

@@ -7,16 +7,28 @@ ghost use Rattle.source.specs.Joining.{cut_of, joined_text, joined_map, any_cut,
 use crate::runs;
 use lexer::{Language, continuation};
 
-// The bytes of the continuation of a language at a place, where no line ends from another place on; 0 for none.
+// The bytes of the continuation of a language that a text begins with; 0 for none, which a walk adds as it is.
+pub fn cut_at(language: Language, rest: &[u8]) -> usize
+    ensures value { result ≡ cut_of language rest.now }
+    ensures within { result ≤ length rest.now }
+{
+    match language {
+        Language::C => continuation::break_c(rest),
+        Language::FortranFree | Language::FortranFixed => continuation::break_f(rest),
+    }
+}
+
+// The same at a place of a text in which no line ends from another place on, which is known once for all places.
 fn cut_before(language: Language, text: &[u8], at: usize, ends: usize) -> usize
     requires { (at ≤ length text.now) × Unended text.now ends }
     ensures value { result ≡ cut_of language (drop at text.now) }
     ensures result_in_bounds { at + result ≤ length text.now }
 {
     match language {
-        Language::C => continuation::break_c(text, at),
-        Language::FortranFree => continuation::break_f_before(text, at, ends),
-        Language::FortranFixed => continuation::break_f_before(text, at, ends),
+        Language::C => continuation::break_c(&text[at..]),
+        Language::FortranFree | Language::FortranFixed => {
+            continuation::break_f_before(text, at, ends)
+        }
     }
 }
 
@@ -26,29 +38,11 @@ fn any_cut_before(text: &[u8], at: usize, ends: usize) -> usize
     ensures value { result ≡ any_cut (drop at text.now) }
     ensures result_in_bounds { at + result ≤ length text.now }
 {
-    let gone = continuation::break_c(text, at);
+    let gone = continuation::break_c(&text[at..]);
     if 0 < gone {
         return gone;
     }
     continuation::break_f_before(text, at, ends)
-}
-
-// The bytes of the continuation of a language at a place; 0 for none.
-pub fn cut_at(language: Language, text: &[u8], at: usize) -> usize
-    requires { at ≤ length text.now }
-    ensures value { result ≡ cut_of language (drop at text.now) }
-    ensures result_in_bounds { at + result ≤ length text.now }
-{
-    cut_before(language, text, at, text.len())
-}
-
-// The bytes of the continuation of either language at a place; 0 for none.
-fn any_cut_at(text: &[u8], at: usize) -> usize
-    requires { at ≤ length text.now }
-    ensures value { result ≡ any_cut (drop at text.now) }
-    ensures result_in_bounds { at + result ≤ length text.now }
-{
-    any_cut_before(text, at, text.len())
 }
 
 // A place from which on no line ends; in C, where nothing asks for it, the line's end.
@@ -57,8 +51,7 @@ fn ends_of(language: Language, line: &[u8]) -> usize
 {
     match language {
         Language::C => line.len(),
-        Language::FortranFree => continuation::last_end(line),
-        Language::FortranFixed => continuation::last_end(line),
+        Language::FortranFree | Language::FortranFixed => continuation::last_end(line),
     }
 }
 
@@ -105,9 +98,10 @@ pub fn copy_into(content: &[u8], copy: &mut [u8]) -> usize
         ends = continuation::ends_before(content, i, ends);
         let gone = any_cut_before(content, i, ends);
         if gone == 0 {
-            let end = runs::plain_end(content, i + 1);
-            k = ascii::copy_part(content, i, end, copy, k);
-            i = end;
+            let run = &content[i..runs::plain_end(content, i + 1)];
+            copy[k..k + run.len()].copy_from_slice(run);
+            k += run.len();
+            i += run.len();
         } else {
             i += gone;
         }

@@ -66,10 +66,10 @@ foreign FortranFixed p line = foreign_f p line
 abbrev pub line_length : List ℕ → ℕ
 line_length xs = leading (λ b. not (is_eol b)) xs
 
--- the bytes of the end of line that a text begins with: LF or CR LF; 0 for "a lone CR"
-abbrev pub eol_bytes : List ℕ → ℕ
-eol_bytes [] = 0
-eol_bytes (x ∷ xs) = cond (eqb x 13) (cond (starts 10 xs) 2 0) 1
+-- the bytes of the end of line that a text begins with: LF or CR LF; none of "a lone CR"
+abbrev pub eol_bytes : List ℕ → Option ℕ
+eol_bytes [] = None
+eol_bytes (x ∷ xs) = cond (eqb x 13) (cond (starts 10 xs) (Some 2) None) (Some 1)
 
 abbrev pub is_over : List ℕ → Bool
 is_over [] = true
@@ -81,9 +81,10 @@ module _ (l : Language) (p : Prefix) where
   abbrev pub check_end : ℕ → List ℕ → List ℕ → Checked
   check_end at line rest =
       cond (is_over rest) Fine
-      (cond (eqb (eol_bytes rest) 0) (WrongAt (at + length line))
-      (cond (is_blank_text (drop (eol_bytes rest) rest)) Fine
-      (cond (continued l p line) (Next (length line + eol_bytes rest)) (WrongAt (at + length line)))))
+      (elim (eol_bytes rest) [
+        None ↦ WrongAt (at + length line)
+      | Some n ↦ cond (is_blank_text (drop n rest)) Fine (cond (continued l p line) (Next (length line + n)) (WrongAt (at + length line)))
+      ])
 
   -- the physical line at place at, with all that follows it
   unfoldable pub check_line : Bool → ℕ → List ℕ → Checked

@@ -1,15 +1,16 @@
--- `position` finds the first byte above 127 behind the eights that have none.
-use Rattle.std.proofs.Common.{◌≡◌, ◌∙◌, rules, sym, drop}
-use Rattle.std.proofs.lemmas.List.{take_rest}
-use Rattle.ascii.proofs.Texts.{high_is, high_none}
+-- The first byte above 127 is where the run of the others ends, if it ends within the text.
+use Rattle.std.proofs.Common.{◌≡◌, arith, zero-add}
+use Rattle.ascii.specs.Ascii.{is_low}
+use Rattle.ascii.specs.Text.{leading}
+use Rattle.ascii.proofs.Texts.{high_some, high_none}
 use Rattle.ascii.proofs.first_high.Goals as goal
 
-pub returns-in-Some : goal.returns-in-Some
-returns-in-Some c =
-    let rest : c.iter.result.rest.now ≡ drop c.low_eights-low.result c.args.text.now = rw take_rest at c.iter.ensures.rest in
-    rw rest at (sym (high_is c.low_eights-low.result c.iter.result.rest.now c.in-Some.n (search rules) (search rules) (search rules))) ∙ c.low_eights-low.ensures.text_value
+pub returns-then-low-text : goal.returns-then-low-text
+returns-then-low-text c =
+    let e : c.long_run_end-low.result ≡ leading is_low c.args.text.now = omega (arith, c.long_run_end-low.ensures.value) in
+    rw (high_some 0 c.args.text.now (omega arith), zero-add, e)
 
-pub returns-in-None : goal.returns-in-None
-returns-in-None c =
-    let rest : c.iter.result.rest.now ≡ drop c.low_eights-low.result c.args.text.now = rw take_rest at c.iter.ensures.rest in
-    rw rest at (sym (high_none c.low_eights-low.result c.iter.result.rest.now (search rules))) ∙ c.low_eights-low.ensures.text_value
+pub returns-else-low-text : goal.returns-else-low-text
+returns-else-low-text c =
+    let e : c.long_run_end-low.result ≡ leading is_low c.args.text.now = omega (arith, c.long_run_end-low.ensures.value) in
+    rw (high_none 0 c.args.text.now (omega arith))
