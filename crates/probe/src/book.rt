@@ -1,21 +1,25 @@
 // The request `book BOOK`.
-use crate::print::Out;
-use crate::words::only_bytes;
-use rulebook::BookAnswer;
+use crate::print::Told;
+use crate::words::hex;
+use crate::work::Spelled;
 use std::io;
+use std::io::Write;
 
-pub fn answer(line: &[u8], book: &mut [u8], buffer: &mut [u8], out: Out) -> io::Result<Out> {
-    let size = only_bytes(line, book);
-    let n = size.value;
-    if !size.good {
-        return out.bad_request(buffer);
-    }
-    answer_book(&book[0..n], buffer, out)
+#[derive(Clone, Copy)]
+pub struct Request<'s> {
+    book: &'s [u8],
 }
 
-fn answer_book(book: &[u8], buffer: &mut [u8], out: Out) -> io::Result<Out> {
-    match rulebook::check_book(book) {
-        BookAnswer::Valid => out.ok(buffer),
-        BookAnswer::Refused(refused) => out.refused(buffer, refused),
+impl<'s> Request<'s> {
+    pub fn parse(words: &[&[u8]], spelled: &'s mut Spelled) -> Option<Request<'s>> {
+        let [book] = *words else { return None };
+        Some(Request {
+            book: hex(book, &mut spelled.first)?,
+        })
+    }
+
+    pub fn answer(self, out: &mut impl Write) -> io::Result<()> {
+        let answer = rulebook::check_book(self.book);
+        writeln!(out, "{}", Told(answer.map(|()| [])))
     }
 }

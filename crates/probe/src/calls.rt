@@ -1,84 +1,49 @@
 // Which call a request asks for.
-use crate::print::Out;
-use crate::words::{part, same, word_at};
+use crate::work::{Lent, Spelled};
 use crate::{back, book, copy, join, line, sequence, split, trim};
 use std::io;
+use std::io::Write;
 
 #[derive(Clone, Copy)]
-pub enum Call {
-    Trim,
-    Split,
-    Join,
-    Back,
-    Copy,
-    Book,
-    Sequence,
-    Line,
-    Unknown,
+pub enum Call<'s> {
+    Trim(trim::Request<'s>),
+    Split(split::Request<'s>),
+    Join(join::Request<'s>),
+    Back(back::Request<'s>),
+    Copy(copy::Request<'s>),
+    Book(book::Request<'s>),
+    Sequence(sequence::Request<'s>),
+    Line(line::Request<'s>),
 }
 
-fn call_of(name: &[u8]) -> Call {
-    if same(name, b"trim") {
-        return Call::Trim;
-    }
-    if same(name, b"split") {
-        return Call::Split;
-    }
-    if same(name, b"join") {
-        return Call::Join;
-    }
-    if same(name, b"back") {
-        return Call::Back;
-    }
-    if same(name, b"copy") {
-        return Call::Copy;
-    }
-    if same(name, b"book") {
-        return Call::Book;
-    }
-    if same(name, b"seq") {
-        return Call::Sequence;
-    }
-    if same(name, b"line") {
-        return Call::Line;
-    }
-    Call::Unknown
-}
-
-// The answer to one request. first and second take the bytes that it spells; bytes and numbers are lent to the call.
-fn answer_call(
-    line: &[u8],
-    first: &mut [u8],
-    second: &mut [u8],
-    bytes: &mut [u8],
-    numbers: &mut [u16],
-    buffer: &mut [u8],
-    out: Out,
-) -> io::Result<Out> {
-    let name = word_at(line, 0);
-    let call = call_of(part(line, name));
-    match call {
-        Call::Trim => trim::answer(line, first, buffer, out),
-        Call::Split => split::answer(line, first, numbers, buffer, out),
-        Call::Join => join::answer(line, first, bytes, numbers, buffer, out),
-        Call::Back => back::answer(line, numbers, buffer, out),
-        Call::Copy => copy::answer(line, first, bytes, buffer, out),
-        Call::Sequence => sequence::answer(line, first, second, buffer, out),
-        Call::Book => book::answer(line, first, buffer, out),
-        Call::Line => line::answer(line, first, second, bytes, numbers, buffer, out),
-        Call::Unknown => out.bad_request(buffer),
+// What the words of a line ask for, if anything.
+pub fn call_of<'s>(words: &[&[u8]], spelled: &'s mut Spelled) -> Option<Call<'s>> {
+    let (name, words) = words.split_first()?;
+    match *name {
+        b"trim" => trim::Request::parse(words, spelled).map(Call::Trim),
+        b"split" => split::Request::parse(words, spelled).map(Call::Split),
+        b"join" => join::Request::parse(words, spelled).map(Call::Join),
+        b"back" => back::Request::parse(words, spelled).map(Call::Back),
+        b"copy" => copy::Request::parse(words, spelled).map(Call::Copy),
+        b"book" => book::Request::parse(words, spelled).map(Call::Book),
+        b"seq" => sequence::Request::parse(words, spelled).map(Call::Sequence),
+        b"line" => line::Request::parse(words, spelled).map(Call::Line),
+        _ => None,
     }
 }
 
-// The answer, and the end of its line.
-pub fn answer(
-    line: &[u8],
-    first: &mut [u8],
-    second: &mut [u8],
-    bytes: &mut [u8],
-    numbers: &mut [u16],
-    buffer: &mut [u8],
-    out: Out,
-) -> io::Result<Out> {
-    answer_call(line, first, second, bytes, numbers, buffer, out)?.byte(buffer, b'\n')
+impl Call<'_> {
+    // Makes the call, and writes its answer.
+    pub fn answer(self, lent: &mut Lent, out: &mut impl Write) -> io::Result<()> {
+        match self {
+            Call::Trim(request) => request.answer(out),
+            Call::Split(request) => request.answer(lent, out),
+            Call::Join(request) => request.answer(lent, out),
+            Call::Back(request) => request.answer(out),
+            Call::Copy(request) => request.answer(lent, out),
+            Call::Book(request) => request.answer(out),
+            Call::Sequence(request) => request.answer(out),
+            Call::Line(request) => request.answer(lent, out),
+        }
+    }
 }

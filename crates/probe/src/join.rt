@@ -1,51 +1,34 @@
 // The request `join LANG PREFIX TEXTSLOTS MAPSLOTS LINE`.
-use crate::form::{Form, form_of};
-use crate::lent::{fill_bytes, fill_numbers};
-use crate::print::Out;
-use crate::words::{ends, hex_at, nth};
-use source::JoinAnswer;
+use crate::form::Form;
+use crate::print::Told;
+use crate::slots::{Slots, marked};
+use crate::words::hex;
+use crate::work::{Lent, Spelled};
 use std::io;
+use std::io::Write;
 
-pub fn answer(
-    line: &[u8],
-    source: &mut [u8],
-    text: &mut [u8],
-    map: &mut [u16],
-    buffer: &mut [u8],
-    out: Out,
-) -> io::Result<Out> {
-    let word = nth(line, 5);
-    let size = hex_at(line, word, source);
-    let form = form_of(line, text.len(), map.len());
-    let n = size.value;
-    let bytes = form.text;
-    let numbers = form.map;
-    if !(form.good & size.good & ends(line, word)) {
-        return out.bad_request(buffer);
-    }
-    let lent = &mut text[0..bytes];
-    answer_join(&source[0..n], form, lent, &mut map[0..numbers], buffer, out)
-}
-
-fn answer_join(
-    source: &[u8],
+#[derive(Clone, Copy)]
+pub struct Request<'s> {
     form: Form,
-    text: &mut [u8],
-    map: &mut [u16],
-    buffer: &mut [u8],
-    out: Out,
-) -> io::Result<Out> {
-    fill_bytes(text);
-    fill_numbers(map);
-    let answer = source::join_line(form.language(), form.prefix(), source, text, map);
-    print_join(answer, buffer, out)?
-        .and_bytes(buffer, text)?
-        .and_numbers(buffer, map)
+    line: &'s [u8],
 }
 
-fn print_join(answer: JoinAnswer, buffer: &mut [u8], out: Out) -> io::Result<Out> {
-    match answer {
-        JoinAnswer::Joined(length) => out.ok(buffer)?.and_number(buffer, length),
-        JoinAnswer::Refused(refused) => out.refused(buffer, refused),
+impl<'s> Request<'s> {
+    pub fn parse(words: &[&[u8]], spelled: &'s mut Spelled) -> Option<Request<'s>> {
+        let [language, prefix, text, map, line] = *words else {
+            return None
+        };
+        Some(Request {
+            form: Form::parse([language, prefix, text, map])?,
+            line: hex(line, &mut spelled.first)?,
+        })
+    }
+
+    pub fn answer(self, lent: &mut Lent, out: &mut impl Write) -> io::Result<()> {
+        let text = marked(&mut lent.bytes, self.form.text);
+        let map = marked(&mut lent.numbers, self.form.map);
+        let answer = source::join_line(self.form.dialect, self.line, text, map);
+        let told = Told(answer.map(|length| [length]));
+        writeln!(out, "{told} : {} : {}", Slots(text), Slots(map))
     }
 }

@@ -7,161 +7,96 @@ mod calls;
 mod copy;
 mod form;
 mod join;
-mod lent;
 mod line;
 mod print;
-mod records;
 mod sequence;
+mod slots;
 mod split;
 mod trim;
 mod words;
+mod work;
 
-use print::Out;
+use std::alloc::Global;
 use std::io;
-use std::io::{Read, Stdin, Stdout};
+use std::io::{BufRead, BufReader, BufWriter, Read, Stdin, Stdout, Write};
+use work::{Lent, Spelled};
 
-// How much of a request is gathered, and how much of the answers.
-#[derive(Clone, Copy)]
-pub struct State {
-    pub len: usize,
-    pub out: Out,
+// A request of so many bytes, its line's end apart, is too long.
+const TOO_LONG: usize = 262144;
+
+// Reads up to the end of the next line, and leaves that end and the rest of a request that is too long out.
+fn next_request(input: &mut impl BufRead, line: &mut Vec<u8>) -> io::Result<bool> {
+    line.clear();
+    input
+        .by_ref()
+        .take(TOO_LONG as u64)
+        .read_until(b'\n', line)?;
+    if line.last() == Some(&b'\n') {
+        line.pop();
+        return Ok(true);
+    }
+    if line.len() == TOO_LONG {
+        input.skip_until(b'\n')?;
+    }
+    Ok(!line.is_empty())
 }
 
-// The request of the first len bytes of the line. A request that fills the line is too long, and its end is lost.
-fn end_request(
+// The answer to a request, and the end of its line.
+fn answer(
+    alloc: Global,
     line: &[u8],
-    len: usize,
-    first: &mut [u8],
-    second: &mut [u8],
-    bytes: &mut [u8],
-    numbers: &mut [u16],
-    buffer: &mut [u8],
-    out: Out,
-) -> io::Result<Out> {
-    if len < line.len() {
-        calls::answer(&line[0..len], first, second, bytes, numbers, buffer, out)
-    } else {
-        out.bytes(buffer, b"bad request\n")
-    }
-}
-
-fn take_byte(
-    b: u8,
-    line: &mut [u8],
-    first: &mut [u8],
-    second: &mut [u8],
-    bytes: &mut [u8],
-    numbers: &mut [u16],
-    buffer: &mut [u8],
-    state: State,
-) -> io::Result<State> {
-    let len = state.len;
-    let out = state.out;
-    if b == b'\n' {
-        let next = end_request(line, len, first, second, bytes, numbers, buffer, out)?;
-        return Ok(State { len: 0, out: next });
-    }
-    if len < line.len() {
-        line[len] = b;
-        return Ok(State { len: len + 1, out });
-    }
-    Ok(State { len, out })
-}
-
-fn take_chunk(
-    chunk: &[u8],
-    line: &mut [u8],
-    first: &mut [u8],
-    second: &mut [u8],
-    bytes: &mut [u8],
-    numbers: &mut [u16],
-    buffer: &mut [u8],
-    state: State,
-) -> io::Result<State> {
-    let mut gathered = state;
-    for b in chunk {
-        gathered = take_byte(*b, line, first, second, bytes, numbers, buffer, gathered)?;
-    }
-    Ok(gathered)
-}
-
-// A last request may lack its line's end.
-fn finish(
-    line: &[u8],
-    first: &mut [u8],
-    second: &mut [u8],
-    bytes: &mut [u8],
-    numbers: &mut [u16],
-    buffer: &mut [u8],
-    state: State,
+    spelled: &mut Spelled,
+    lent: &mut Lent,
+    out: &mut impl Write,
 ) -> io::Result<()> {
-    let len = state.len;
-    let out = state.out;
-    if len == 0 {
-        return out.flush(buffer);
+    if line.len() == TOO_LONG {
+        return out.write_all(b"bad request\n");
     }
-    end_request(line, len, first, second, bytes, numbers, buffer, out)?.flush(buffer)
+    let words: Vec<&[u8]> = line.split(|b| *b == b' ').collect(alloc)?;
+    match calls::call_of(words.as_slice(), spelled) {
+        Some(call) => call.answer(lent, out),
+        None => out.write_all(b"bad request\n"),
+    }
 }
 
 // A proved loop has to end, and nothing says that the input does: it has more turns than any run uses up. Where a read fails, what was read before is answered first.
 fn run(
-    mut input: Stdin,
+    alloc: Global,
+    input: Stdin,
     output: Stdout,
-    chunk: &mut [u8],
-    line: &mut [u8],
-    first: &mut [u8],
-    second: &mut [u8],
-    bytes: &mut [u8],
-    numbers: &mut [u16],
-    buffer: &mut [u8],
+    spelled: &mut Spelled,
+    lent: &mut Lent,
 ) -> io::Result<()> {
-    let mut gathered = State {
-        len: 0,
-        out: Out { len: 0, to: output },
-    };
+    let mut input = BufReader::with_capacity(alloc, 65536, input)?;
+    let mut out = BufWriter::with_capacity(alloc, 65536, output)?;
+    let mut line = Vec::new(alloc);
     let mut end = Ok(());
     for _ in 0..u64::MAX {
-        match input.read(chunk) {
-            Ok(0) => break,
-            Ok(n) => {
-                gathered = take_chunk(
-                    &chunk[..n],
-                    line,
-                    first,
-                    second,
-                    bytes,
-                    numbers,
-                    buffer,
-                    gathered,
-                )?;
-            }
+        match next_request(&mut input, &mut line) {
+            Ok(true) => answer(alloc, line.as_slice(), spelled, lent, &mut out)?,
+            Ok(false) => break,
             Err(e) => {
                 end = Err(e);
                 break;
             }
         }
     }
-    finish(line, first, second, bytes, numbers, buffer, gathered)?;
+    if end.is_err() && !line.is_empty() {
+        answer(alloc, line.as_slice(), spelled, lent, &mut out)?;
+    }
+    out.flush()?;
     end
 }
 
 fn main(rt: HostRuntime) -> io::Result<()> {
-    let mut chunk = [0u8; 65536];
-    let mut line = [0u8; 262144];
-    let mut first = [0u8; 40000];
-    let mut second = [0u8; 40000];
-    let mut bytes = [0u8; 20000];
-    let mut numbers = [0u16; 20000];
-    let mut buffer = [0u8; 65536];
-    run(
-        rt.stdin(),
-        rt.stdout(),
-        &mut chunk,
-        &mut line,
-        &mut first,
-        &mut second,
-        &mut bytes,
-        &mut numbers,
-        &mut buffer,
-    )
+    let mut spelled = Spelled {
+        first: [0; 40000],
+        second: [0; 40000],
+        numbers: [0; 20000],
+    };
+    let mut lent = Lent {
+        bytes: [0; 20000],
+        numbers: [0; 20000],
+    };
+    run(rt.alloc(), rt.stdin(), rt.stdout(), &mut spelled, &mut lent)
 }

@@ -1,21 +1,26 @@
 // The request `trim TEXT`.
-use crate::print::Out;
-use crate::words::only_bytes;
+use crate::print::Told;
+use crate::words::hex;
+use crate::work::Spelled;
 use std::io;
+use std::io::Write;
 
-pub fn answer(line: &[u8], text: &mut [u8], buffer: &mut [u8], out: Out) -> io::Result<Out> {
-    let size = only_bytes(line, text);
-    if !size.good {
-        return out.bad_request(buffer);
-    }
-    let n = size.value;
-    trimmed(&text[0..n], buffer, out)
+#[derive(Clone, Copy)]
+pub struct Request<'s> {
+    text: &'s [u8],
 }
 
-fn trimmed(text: &[u8], buffer: &mut [u8], out: Out) -> io::Result<Out> {
-    let start = ascii::trim_range(text).start;
-    let end = start + ascii::trim(text).len();
-    out.ok(buffer)?
-        .and_number(buffer, start)?
-        .and_number(buffer, end)
+impl<'s> Request<'s> {
+    pub fn parse(words: &[&[u8]], spelled: &'s mut Spelled) -> Option<Request<'s>> {
+        let [text] = *words else { return None };
+        Some(Request {
+            text: hex(text, &mut spelled.first)?,
+        })
+    }
+
+    pub fn answer(self, out: &mut impl Write) -> io::Result<()> {
+        let start = ascii::trim_range(self.text).start;
+        let end = start + ascii::trim(self.text).len();
+        writeln!(out, "{}", Told(Ok([start, end])))
+    }
 }

@@ -1,0 +1,94 @@
+// The slots that a call is lent: bytes, numbers or clause records.
+ghost use Rattle.std.specs.Prelude.{◌≤◌, length};
+
+use clause::ClauseRecord;
+use std::fmt;
+use std::fmt::{Display, Formatter};
+
+pub trait Slot: Copy + Default + PartialEq {
+    // What a slot holds before a call, so that one that the call leaves alone shows.
+    const MARK: Self;
+
+    // Writes a slot as an item of a list.
+    fn item<W: fmt::Write>(self, f: &mut Formatter<W>) -> fmt::Result;
+}
+
+impl Slot for u8 {
+    const MARK: u8 = 170;
+
+    fn item<W: fmt::Write>(self, f: &mut Formatter<W>) -> fmt::Result {
+        write!(f, "{self}")
+    }
+}
+
+impl Slot for u16 {
+    const MARK: u16 = 43690;
+
+    fn item<W: fmt::Write>(self, f: &mut Formatter<W>) -> fmt::Result {
+        write!(f, "{self}")
+    }
+}
+
+impl Slot for ClauseRecord {
+    const MARK: ClauseRecord = ClauseRecord {
+        name_start: 43690,
+        name_end: 43690,
+        entry: 43690,
+        parenthesized: true,
+        content_start: 43690,
+        content_end: 43690,
+        preceded: true,
+        trailing: true,
+    };
+
+    // The eight fields, in the order of document 01.
+    fn item<W: fmt::Write>(self, f: &mut Formatter<W>) -> fmt::Result {
+        let (parenthesized, preceded, trailing) = (
+            u8::from(self.parenthesized),
+            u8::from(self.preceded),
+            u8::from(self.trailing),
+        );
+        write!(
+            f,
+            "{}/{}/{}/{parenthesized}",
+            self.name_start, self.name_end, self.entry
+        )?;
+        write!(
+            f,
+            "/{}/{}/{preceded}/{trailing}",
+            self.content_start, self.content_end
+        )
+    }
+}
+
+// Slots as an answer lists them: separated by commas up to the last that is not zero, then how many zeros follow.
+#[derive(Clone, Copy)]
+pub struct Slots<'w, T>(pub &'w [T]);
+
+impl<T: Slot> Display for Slots<'_, T> {
+    fn fmt<W: fmt::Write>(&self, f: &mut Formatter<W>) -> fmt::Result {
+        let slots = self.0;
+        let used = match slots.iter().rposition(|slot| *slot != T::default()) {
+            Some(last) => last + 1,
+            None => 0,
+        };
+        for (i, slot) in slots[..used].iter().enumerate() {
+            if i > 0 {
+                f.write_char(',')?;
+            }
+            slot.item(f)?;
+        }
+        write!(f, "+{}", slots.len() - used)
+    }
+}
+
+// The first n slots of a buffer, each with its mark.
+pub fn marked<T: Slot>(buffer: &mut [T], n: usize) -> &mut [T]
+    requires { n ≤ length buffer.old }
+{
+    let slots = &mut buffer[..n];
+    for slot in slots.iter_mut() {
+        *slot = T::MARK;
+    }
+    slots
+}

@@ -1,0 +1,16 @@
+// The memory that the requests share.
+
+// What the words of a request spell: the bytes of two words, and the numbers of one.
+#[derive(Drop)]
+pub struct Spelled {
+    pub first: [u8; 40000],
+    pub second: [u8; 40000],
+    pub numbers: [u16; 20000],
+}
+
+// The slots that a call is lent.
+#[derive(Drop)]
+pub struct Lent {
+    pub bytes: [u8; 20000],
+    pub numbers: [u16; 20000],
+}
