@@ -1,5 +1,4 @@
--- What the definitions of Fortran's continuation say at a place of a text, in the places that the code reads at.
--- Assumes nothing.
+-- What crates above ask of continuations: that no text begins with both, and that there is none behind the last end of line. By cases of the bytes read.
 use mathlib.Core.Path.{◌≡◌, refl}
 use mathlib.Core.Bool.{Bool, true, false, cond}
 use mathlib.Core.List.{List}
@@ -15,31 +14,6 @@ use Rattle.ascii.specs.Text.{leading}
 use Rattle.ascii.proofs.Flags.{or-none, by_cases}
 use Rattle.lexer.specs.Continuation.{sentinel_any, eol, comment_f, marker, lead, ended, tailed, break_c, break_f, Unended}
 
-module _ (s : List ℕ) (at : ℕ) where
-  pub marker-at : (end : ℕ) → end ≡ at + leading is_blank (drop at s) → marker (drop at s) ≡ cond (eqb (get_or s end 0) 38) (end - at + 1) 0
-  unfolding marker
-  marker-at end e =
-      let q : end - at ≡ leading is_blank (drop at s) = omega arith in
-      rw (q, e) (simp (drop-drop, get_or-drop, add-zero))
-
-  pub lead-at : (end : ℕ) → end ≡ at + leading is_blank (drop at s)
-      → lead (drop at s)
-      ≡ cond (ltb 0 (sentinel_any (drop end s))) (end + sentinel_any (drop end s) - at + marker (drop (end + sentinel_any (drop end s)) s)) (marker (drop at s))
-  unfolding lead
-  lead-at end e =
-      let k = leading is_blank (drop at s) in
-      let q : (n : ℕ) → at + k + n - at ≡ k + n = λ n. omega arith in
-      rw e (simp (drop-drop, ← add_assoc, q))
-
-  pub break-f-at : (blanks stop : ℕ) → get_or s at 0 ≡ 38 → blanks ≡ at + 1 + leading is_blank (drop (at + 1) s) → stop ≡ blanks + comment_f (drop blanks s)
-      → break_f (drop at s) ≡ cond (ltb 0 (eol (drop stop s))) (stop + eol (drop stop s) - at + lead (drop (stop + eol (drop stop s)) s)) 0
-  unfolding break_f
-  break-f-at blanks stop b e f =
-      let k = leading is_blank (drop (at + 1) s) in
-      let m = comment_f (drop (at + 1 + k) s) in
-      let q : (n : ℕ) → at + 1 + k + m + n - at ≡ 1 + k + m + n = λ n. omega arith in
-      rw (f, e) (simp (get_or-drop, add-zero, b, drop-drop, ← add_assoc, q))
-
 -- no text begins with the continuations of both languages
 pub one-break : (xs : List ℕ) → 0 < break_c xs → break_f xs ≡ 0
 unfolding break_c break_f
@@ -52,13 +26,6 @@ one-break xs = go (eqb (get_or xs 0 0) 92) refl
 -- no line ends behind a text
 pub unended-end : (xs : List ℕ) → Unended xs (length xs)
 unended-end xs = record { none = λ j h. rw (get_or-eq_default xs 0 h) }
-
--- one byte more that ends no line
-pub unended-more : (xs : List ℕ) (i : ℕ) → 0 < i → Unended xs i → is_eol (get_or xs (i - 1) 0) ≡ false → Unended xs (i - 1)
-unended-more xs i p u e =
-    record {
-      none = λ j h. by_cases (leb i j) (λ t. u.none j (leb-true i j t)) (λ f. let k : j ≡ i - 1 = omega (arith, leb-false i j f) in rw k e);
-    }
 
 -- where no line ends from a place on, there is no continuation from there on
 module _ (xs : List ℕ) (from : ℕ) (u : Unended xs from) where

@@ -3,16 +3,16 @@
 use mathlib.Core.Path.{◌≡◌, refl, ap, sym, subst, ◌∙◌}
 use mathlib.Core.Bool.{true, true≢false}
 use mathlib.Core.List.{List, [], ◌∷◌}
+use Rattle.std.specs.Prelude.{Result, Ok, Err}
 use Prim.Native.Nat.{ℕ, zero, suc, ◌<◌, ◌≤◌, suc-le-suc}
 use native.Mathlib.Omega.{arith}
 use lib.ListN.{length, get_or}
 use lib.Dec.{eqb}
 use Rattle.ascii.specs.Text.{begins}
 use Rattle.ascii.proofs.Flags.{and_right}
+use Rattle.refusal.specs.declared.Refusal.{Refusal}
 use Rattle.refusal.specs.Answer.{Answer, given}
 use Rattle.lexer.specs.declared.Cursor.{Cursor}
-use Rattle.lexer.specs.declared.Step.{Step}
-use Rattle.lexer.specs.declared.Step.TheVariants.{At, Refused}
 use Rattle.lexer.specs.declared.Prefix.{Prefix}
 use Rattle.lexer.specs.declared.Prefix.TheVariants.{Omp, Acc}
 use Rattle.lexer.specs.Continuation.{prefix_bytes}
@@ -36,12 +36,12 @@ prefix-length Omp = refl
 prefix-length Acc = refl
 
 -- a step goes forward from any place before its own
-pub forward-since : (a b n : ℕ) (s : Step) → a ≤ b → Forward b n s → Forward a n s
-forward-since a b n (At c) h f = (omega (arith, h, f.0), f.1)
-forward-since a b n (Refused r) h f = tt
+pub forward-since : (a b n : ℕ) (s : Result Cursor Refusal) → a ≤ b → Forward b n s → Forward a n s
+forward-since a b n (Ok c) h f = (omega (arith, h, f.0), f.1)
+forward-since a b n (Err r) h f = tt
 
 -- where a step came to, if it came to a cursor: what the step is said to be, and within which places
-pub came-to : {r : Step} {c : Cursor} {x : Answer ℕ} {a n : ℕ} → r ≡ At c → step_of r ≡ x → Forward a n r → (x ≡ given c.at) × (a ≤ c.at) × (c.at ≤ n)
+pub came-to : {r : Result Cursor Refusal} {c : Cursor} {x : Answer ℕ} {a n : ℕ} → r ≡ Ok c → step_of r ≡ x → Forward a n r → (x ≡ given c.at) × (a ≤ c.at) × (c.at ≤ n)
 came-to {r} {c} {x} {a} {n} e g f =
     let h = subst (Forward a n) e f in
     (sym g ∙ ap step_of e, h.0, h.1)

@@ -8,6 +8,7 @@ use super::{Dialect, Language, Prefix};
 use ascii::sets::{Blank, InLine};
 
 // The break of C: a backslash with LF or CR LF.
+#[tactic(auto, unfolding(crate::specs::Continuation::break_c))]
 pub fn break_c(rest: &[u8]) -> usize
     ensures value { result ≡ break_c rest.now }
     ensures within { result ≤ length rest.now }
@@ -34,6 +35,7 @@ fn is_marked(rest: &[u8]) -> bool
 }
 
 // The sentinel, with the prefix or alone.
+#[tactic(auto, unfolding(crate::specs::Continuation::sentinel))]
 pub fn sentinel(rest: &[u8], prefix: Prefix) -> usize
     ensures value { result ≡ sentinel_of prefix rest.now }
     ensures within { result ≤ length rest.now }
@@ -68,6 +70,7 @@ fn is_boundary(rest: &[u8]) -> bool
 }
 
 // The sentinel, if a boundary follows it.
+#[tactic(auto, unfolding(crate::specs::Continuation::sentinel_ended))]
 pub fn sentinel_ended(rest: &[u8], prefix: Prefix) -> usize
     ensures value { result ≡ sentinel_ended prefix rest.now }
     ensures within { result ≤ length rest.now }
@@ -77,6 +80,7 @@ pub fn sentinel_ended(rest: &[u8], prefix: Prefix) -> usize
 }
 
 // The sentinel of either prefix.
+#[tactic(auto, unfolding(crate::specs::Continuation::sentinel_any))]
 pub fn sentinel_any(rest: &[u8]) -> usize
     ensures value { result ≡ sentinel_any rest.now }
     ensures within { result ≤ length rest.now }
@@ -87,6 +91,7 @@ pub fn sentinel_any(rest: &[u8]) -> usize
 }
 
 // The end of line: LF, CR LF or a lone CR.
+#[tactic(auto, unfolding(crate::specs::Continuation::eol))]
 fn eol(rest: &[u8]) -> usize
     ensures value { result ≡ eol_of rest.now }
     ensures within { result ≤ length rest.now }
@@ -99,6 +104,7 @@ fn eol(rest: &[u8]) -> usize
 }
 
 // The comment of Fortran, without its end of line.
+#[tactic(auto, unfolding(crate::specs::Continuation::comment_f))]
 fn comment_f(rest: &[u8]) -> usize
     ensures value { result ≡ comment_f rest.now }
     ensures within { result ≤ length rest.now }
@@ -110,6 +116,7 @@ fn comment_f(rest: &[u8]) -> usize
 }
 
 // Blanks with `&` behind them.
+#[tactic(auto, unfolding(crate::specs::Continuation::marker))]
 fn marker(rest: &[u8]) -> usize
     ensures value { result ≡ marker_of rest.now }
     ensures within { result ≤ length rest.now }
@@ -122,6 +129,7 @@ fn marker(rest: &[u8]) -> usize
 }
 
 // What goes at the start of a line that continues another: indentation, sentinel and leading `&`.
+#[tactic(auto, unfolding(crate::specs::Continuation::lead))]
 fn lead(rest: &[u8]) -> usize
     ensures value { result ≡ lead_of rest.now }
     ensures within { result ≤ length rest.now }
@@ -136,6 +144,7 @@ fn lead(rest: &[u8]) -> usize
 }
 
 // The continuation of Fortran.
+#[tactic(auto, unfolding(crate::specs::Continuation::break_f))]
 pub fn break_f(rest: &[u8]) -> usize
     ensures value { result ≡ break_f rest.now }
     ensures within { result ≤ length rest.now }

@@ -7,6 +7,7 @@ use crate::continuation;
 use refusal::{Reason, Refusal};
 
 // The bytes up to the end of a line comment that a text begins inside of: LF is its last byte.
+#[tactic(auto, unfolding(ascii::specs::Text::up_to))]
 fn line_end(rest: &[u8]) -> usize
     ensures value { result ≡ up_to is_line_feed rest.now }
     ensures within { result ≤ length rest.now }
@@ -18,6 +19,7 @@ fn line_end(rest: &[u8]) -> usize
 }
 
 // The bytes of trivia of C that a text begins with, 0 for none at all; no number of them where a comment has no end.
+#[tactic(auto, unfolding(crate::specs::Trivia::trivia_c))]
 fn trivia_c(rest: &[u8]) -> Option<usize>
     ensures value { result ≡ trivia_c rest.now }
     ensures fits { Fits (length rest.now) result }
@@ -35,6 +37,7 @@ fn trivia_c(rest: &[u8]) -> Option<usize>
 }
 
 // The same of Fortran, where each comment ends with its line.
+#[tactic(auto, unfolding(crate::specs::Trivia::trivia_f))]
 fn trivia_f(rest: &[u8]) -> usize
     ensures value { result ≡ trivia_f rest.now }
     ensures within { result ≤ length rest.now }
