@@ -1,14 +1,16 @@
 -- Laws of texts at a place, in the terms of the code that reads there.
 -- Assumes nothing.
 use mathlib.Core.Path.{◌≡◌, refl, ap, sym, subst, ◌∙◌}
-use mathlib.Core.Bool.{true, true≢false}
+use mathlib.Core.Bool.{Bool, true, false, true≢false}
 use mathlib.Core.List.{List, [], ◌∷◌}
 use Rattle.std.specs.Prelude.{Result, Ok, Err}
 use Prim.Native.Nat.{ℕ, zero, suc, ◌<◌, ◌≤◌, suc-le-suc}
 use native.Mathlib.Omega.{arith}
 use lib.ListN.{length, get_or}
 use lib.Dec.{eqb}
-use Rattle.ascii.specs.Text.{begins}
+use Rattle.std.specs.List.{starts_with}
+use Rattle.ascii.specs.Ascii.{exactly}
+use Rattle.ascii.specs.Text.{begins, up_to}
 use Rattle.ascii.proofs.Flags.{and_right}
 use Rattle.refusal.specs.declared.Refusal.{Refusal}
 use Rattle.refusal.specs.Answer.{Answer, given}
@@ -34,6 +36,25 @@ begins-fits f (p ∷ w) (x ∷ xs) e = suc-le-suc (begins-fits f w xs (and_right
 pub prefix-length : (p : Prefix) → length (prefix_bytes p) ≡ 3
 prefix-length Omp = refl
 prefix-length Acc = refl
+
+-- the bytes up to and with the first of a kind, by where that is, or all
+pub upto-first : (p : ℕ → Bool) (xs : List ℕ) (n : ℕ) → n < length xs → ((k : ℕ) → k < n → p (get_or xs k 0) ≡ false) → p (get_or xs n 0) ≡ true → up_to p xs ≡ suc n
+unfolding up_to
+upto-first p [] n h before here = absurd (omega arith)
+upto-first p (x ∷ xs) zero h before here = rw here refl
+upto-first p (x ∷ xs) (suc n) h before here = rw (before 0 (omega arith), upto-first p xs n (omega arith) (λ k l. before (suc k) (omega arith)) here) refl
+
+pub upto-whole : (p : ℕ → Bool) (xs : List ℕ) → ((k : ℕ) → k < length xs → p (get_or xs k 0) ≡ false) → up_to p xs ≡ length xs
+unfolding up_to
+upto-whole p [] none = refl
+upto-whole p (x ∷ xs) none = rw (none 0 (omega arith), upto-whole p xs (λ k l. none (suc k) (omega arith))) refl
+
+-- a word that stands at the front, in the library's spelling
+pub begins-starts : (w xs : List ℕ) → begins exactly w xs ≡ starts_with eqb xs w
+unfolding begins
+begins-starts [] xs = refl
+begins-starts (p ∷ w) [] = refl
+begins-starts (p ∷ w) (x ∷ xs) = rw (begins-starts w xs) refl
 
 -- a step goes forward from any place before its own
 pub forward-since : (a b n : ℕ) (s : Result Cursor Refusal) → a ≤ b → Forward b n s → Forward a n s

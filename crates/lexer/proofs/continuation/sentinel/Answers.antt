@@ -1,5 +1,5 @@
 -- `sentinel` meets its contract: a text that has the prefix behind two bytes has room for it.
-use Rattle.std.proofs.Common.{sym, ◌∙◌, drop, arith, length-drop}
+use Rattle.std.proofs.Common.{◌≤◌, ℕ, length, sym, ◌∙◌, arith, length-drop, length-take}
 use Rattle.ascii.specs.Ascii.{fold}
 use Rattle.lexer.specs.Continuation.{prefix_bytes}
 use Rattle.lexer.proofs.Laws.{begins-fits, prefix-length}
@@ -7,6 +7,10 @@ use Rattle.lexer.proofs.continuation.sentinel.Goals as goal
 
 pub returns-then-prefix_at-clause-within : goal.returns-then-prefix_at-clause-within
 returns-then-prefix_at-clause-within c =
-    let p = c.args.prefix in
-    let rest = c.args.rest.now in
-    omega (arith, begins-fits fold (prefix_bytes p) (drop 2 rest) (sym c.prefix_at.ensures ∙ c.if-prefix_at.true), prefix-length p, length-drop 2 rest)
+    omega (
+      arith,
+      begins-fits fold (prefix_bytes c.args.prefix) _ (sym c.prefix_at.ensures ∙ c.if-prefix_at.true),
+      prefix-length c.args.prefix,
+      length-take {A = ℕ},
+      length-drop {A = ℕ},
+    )
