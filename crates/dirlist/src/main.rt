@@ -7,26 +7,28 @@ ghost use Rattle.std.specs.Prelude.{◌≤◌, ◌<◌, length, take, IfOk};
 ghost use Rattle.std.specs.Io.KnownBytes.{Consumes, IsAtEnd};
 
 use clause::ClauseRecord;
-use lexer::{Language, Prefix};
-use reader::LineAnswer;
+use lexer::{Dialect, Language, Prefix};
 use std::io::Read;
 use std::rt::Files;
 use std::{fs, io};
 
+const C_OMP: Dialect = Dialect {
+    language: Language::C,
+    prefix: Prefix::Omp,
+};
+
 // Reads until the buffer is full or the input ends, and returns how many bytes stand at the buffer's start: the input's next ones, and all of them where the buffer has room for more.
+// A `take(..).read_to_end(..)` was tried: none of these three clauses closes, since it says nothing of what is left in the reader, nor, where its bytes are unknown, that no more than the limit came.
 fn read_full<R: Read>(input: &mut R, buffer: &mut [u8]) -> io::Result<usize>
     ensures bound { IfOk result (λ n. n ≤ length buffer.old) }
     ensures bytes { IfOk result (λ n. Consumes (R.remaining input.old) (R.remaining input.new) (take n buffer.new)) }
     ensures whole { IfOk result (λ n. n < length buffer.old → IsAtEnd (R.remaining input.new)) }
 {
     let mut done = 0;
-    for _ in 0..u64::MAX {
-        if done == buffer.len() {
-            return Ok(done);
-        }
+    while done < buffer.len() {
         let n = input.read(&mut buffer[done..])?;
         if n == 0 {
-            return Ok(done);
+            break;
         }
         done += n;
     }
@@ -43,20 +45,6 @@ fn read_book(rt: &impl Files, book: &mut [u8]) -> io::Result<usize>
     }
 }
 
-fn empty_records() -> [ClauseRecord; 512] {
-    let empty = ClauseRecord {
-        name_start: 0,
-        name_end: 0,
-        entry: 0,
-        parenthesized: false,
-        content_start: 0,
-        content_end: 0,
-        preceded: false,
-        trailing: false,
-    };
-    [empty; 512]
-}
-
 fn print_line(
     rt: &impl Print,
     book: &[u8],
@@ -64,21 +52,11 @@ fn print_line(
     text: &mut [u8],
     map: &mut [u16],
 ) -> io::Result<()> {
-    let done = reader::read_line_512(
-        Language::C,
-        Prefix::Omp,
-        book,
-        line,
-        text,
-        map,
-        512,
-        empty_records(),
-    );
-    let answer = done.answer;
-    let records = done.records;
-    match answer {
-        LineAnswer::Read(reading) => list::reading(rt, reading, records, map),
-        LineAnswer::Refused(refused) => list::refused(rt, refused, line, text, map),
+    let records = [ClauseRecord::default(); 512];
+    let done = reader::read_line_array(C_OMP, book, line, text, map, 512, records);
+    match done.answer {
+        Ok(reading) => list::reading(rt, reading, &done.records, map),
+        Err(refused) => list::refused(rt, refused, line, text, map),
     }
 }
 
@@ -90,5 +68,5 @@ fn main(rt: HostRuntime) -> io::Result<()> {
     let n = read_full(&mut rt.stdin(), &mut line)?;
     let mut text = [0u8; 16385];
     let mut map = [0u16; 16386];
-    print_line(&rt, &book[0..b], &line[0..n], &mut text, &mut map)
+    print_line(&rt, &book[..b], &line[..n], &mut text, &mut map)
 }
