@@ -122,7 +122,7 @@ fn step(e: Expect, b: u8) -> Option<Expect>
         Expect::Rule(c) => is_rule(b).then_some(Expect::ClauseLength(c)),
         Expect::ClauseLength(c) => is_length(b).then_some(Expect::ClauseName(less_one(b), c)),
         Expect::ClauseName(n, c) => word_step(n, c, b),
-        Expect::End => None,
+        Expect::End => None, // nothing follows
     }
 }
 

@@ -9,7 +9,7 @@ invariant-loop-left l =
     (l.left.lead ≡ l.initial.left.lead)
     × (l.left.first ≤ length l.book)
     × ((c : ℕ) → bad_from (waits l.left.lead l.left.count c) l.left.first (drop l.left.first l.book)
-        ≡ bad_from (waits l.initial.left.lead l.initial.left.count c) l.initial.left.first (drop l.initial.left.first l.book))
+    ≡ bad_from (waits l.initial.left.lead l.initial.left.count c) l.initial.left.first (drop l.initial.left.first l.book))
 
 abbrev pub decreases-loop-left : goal.decreases-loop-left
 decreases-loop-left l = l.left.count
