@@ -12,15 +12,14 @@ use lib.Dec.{eqb, ltb}
 use borrow.Author.Tests.{ltb-true, ltb-false}
 use Rattle.ascii.specs.Ascii.{is_word}
 use Rattle.ascii.proofs.Flags.{by_cases}
-use Rattle.refusal.specs.declared.Refusal.{Refusal}
-use Rattle.refusal.specs.Answer.{Answer, given, refused_by, unless_fault}
+use Rattle.refusal.specs.declared.Reason.TheVariants.{WrongBook}
+use Rattle.refusal.specs.Answer.{Answer, given, unless_fault}
+use Rattle.refusal.specs.Verdict.{fault_by, or_refused}
 use Rattle.bookform.specs.declared.Expect.{Expect}
 use Rattle.bookform.specs.declared.Expect.TheVariants.{HeaderByte, ClauseCount, DirectiveLength, DirectiveName, Rule, ClauseLength, ClauseName}
-use Rattle.bookform.specs.declared.Step.{Step}
-use Rattle.bookform.specs.declared.Step.TheVariants.{Next, Bad}
 use Rattle.bookform.specs.Format.{rule_for, is_known, is_header, is_length, clauses_left, directives_left, stepped, ended_at, bad_from, HasForm}
 use Rattle.rulebook.specs.Book.{name_at, place_after, Laid, LaidIn, directives_of, clauses_of}
-use Rattle.rulebook.specs.Check.{or_else, book_fault, book_call}
+use Rattle.rulebook.specs.Check.{or_else, book_fault, book_verdict, book_call}
 use Rattle.bookform.proofs.Steps.{never, when-next, at_least, bad-here, bad-later, bad-end}
 
 module _ (bs : List ℕ) where
@@ -28,7 +27,7 @@ module _ (bs : List ℕ) where
   record Goes (e : Expect) (at : ℕ) : Type 0 where
     inside : at < length bs
     next : Expect
-    leads : stepped e (get_or bs at 0) ≡ Next next
+    leads : stepped e (get_or bs at 0) ≡ Some next
     fine : bad_from next (at + 1) (drop (at + 1) bs) ≡ None
 
   goes : (e : Expect) (at : ℕ) → ended_at e at ≡ Some at → bad_from e at (drop at bs) ≡ None → Goes e at
@@ -37,9 +36,9 @@ module _ (bs : List ℕ) where
       (λ t. on (ltb-true _ _ t) (stepped e (get_or bs at 0)) refl)
       (λ t. never at (sym w ∙ sym (bad-end bs e at (ltb-false _ _ t)) ∙ h))
     where
-      on : at < length bs → (s : Step) → stepped e (get_or bs at 0) ≡ s → Goes e at
-      on l (Next n) q = record { inside = l; next = n; leads = q; fine = sym (bad-later bs e at n l q) ∙ h }
-      on l Bad q = never at (sym (bad-here bs e at l q) ∙ h)
+      on : at < length bs → (s : Option Expect) → stepped e (get_or bs at 0) ≡ s → Goes e at
+      on l (Some n) q = record { inside = l; next = n; leads = q; fine = sym (bad-later bs e at n l q) ∙ h }
+      on l None q = never at (sym (bad-here bs e at l q) ∙ h)
 
   -- names
   name-fits : (n : ℕ) (w : Bool) (d c at to : ℕ) → to ≡ at + n + 1 → bad_from (DirectiveName n w d c) at (drop at bs) ≡ None
@@ -142,15 +141,11 @@ module _ (bs : List ℕ) where
       go None b e = refl
       go (Some p) b e = e
 
--- a book is valid exactly if its check says so
-no-fault : (o : Option ℕ) → ◌≡◌ {A = Answer (Unit {0})} (given tt) (unless_fault 4 o (given tt)) → o ≡ None
-no-fault None e = refl
-no-fault (Some p) e = let z : ◌≡◌ {A = ℕ} 0 1 = cc in absurd (omega arith)
+-- the check is the call
+verdict-of : (o : Option ℕ) → ◌≡◌ {A = Answer (Unit {0})} (or_refused (fault_by WrongBook o) (given tt)) (unless_fault 4 o (given tt))
+verdict-of None = refl
+verdict-of (Some p) = refl
 
-pub valid-book : (bs : List ℕ) → given tt ≡ book_call bs → book_fault bs ≡ None
-unfolding book_call
-valid-book bs e = no-fault (book_fault bs) e
-
-pub not_valid : {X : Type 0} (bs : List ℕ) (r : Refusal) → refused_by r ≡ book_call bs → book_fault bs ≡ None → X
-unfolding book_call
-not_valid bs r e v = let q : refused_by {A = Unit {0}} r ≡ given tt = rw v at e in let z : ◌≡◌ {A = ℕ} 0 1 = cc in absurd (omega arith)
+pub verdict-call : (bs : List ℕ) → ◌≡◌ {A = Answer (Unit {0})} (or_refused (book_verdict bs) (given tt)) (book_call bs)
+unfolding book_verdict book_call
+verdict-call bs = verdict-of (book_fault bs)

@@ -7,22 +7,29 @@ use mathlib.Core.List.{List, [], ◌∷◌, ◌++◌, append_assoc, append-nil}
 use Prim.Native.Nat.{ℕ, zero, suc, ◌+◌, ◌-◌, ◌*◌, ◌<◌, ◌≤◌}
 use native.Mathlib.Numerals.{add-one}
 use native.Mathlib.Omega.{arith}
-use lib.ListN.{length, get_or, set, length-set}
+use lib.ListN.{length, get_or, set, replicate}
 use lib.Seq.{get_or-set_same, get_or-set_other}
 use lib.Dec.{eqb}
 use borrow.Author.Tests.{eqb-true, eq-eqb}
 use Rattle.ascii.specs.Ascii.{fold}
 use Rattle.ascii.specs.Text.{same_by, comparing}
-use Rattle.rulebook.specs.declared.EntryFound.{EntryFound}
-use Rattle.rulebook.specs.declared.EntryFound.TheVariants.{At, Nothing}
+use Rattle.rulebook.specs.declared.index.FoundEntry.{FoundEntry}
+use Rattle.rulebook.specs.declared.index.NameIndex.{NameIndex}
 use Rattle.rulebook.specs.Book.{Entry, name_at, entry_at, entries_from, place_after, Laid}
 use Rattle.rulebook.specs.Check.{is_named, repeat_from}
 use Rattle.rulebook.specs.Lookup.{find_from}
 use Rattle.rulebook.specs.Signature.{signature}
-use Rattle.rulebook.specs.Index.{name_of, slot_of, last_slot, last_named, Chains, Blank, Elsewhere}
+use Rattle.rulebook.specs.Index.{name_of, slot_of, last_slot, last_named, Indexed, Blank}
 use Rattle.rulebook.proofs.Laying.{entries-snoc, place-snoc}
 use Rattle.rulebook.proofs.Repeating.{is_found, named-found}
 use Rattle.rulebook.proofs.Signatures.{signed-apart}
+
+-- a list of zeros
+pub zero-at : (n j : ℕ) → ◌≡◌ {A = ℕ} (get_or (replicate n 0) j 0) 0
+zero-at zero zero = refl
+zero-at zero (suc j) = refl
+zero-at (suc n) zero = refl
+zero-at (suc n) (suc j) = zero-at n j
 
 -- the name of an entry lies inside the book
 pub laid-at : (lead : ℕ) (bs : List ℕ) (n m at : ℕ) → m < n → Laid lead n at bs → (name_at lead (place_after lead m at bs) bs).end ≤ length bs
@@ -81,20 +88,20 @@ module _ (lead first : ℕ) (bs : List ℕ) where
             let r = ih h in
             record { m = r.m; below = omega (arith, r.below); is = r.is; signed = r.signed; rest = rw (apart k e) r.rest }
 
-    pub unreached : (k : ℕ) → last_slot lead first bs (signature name) k ≡ 0 → last_named (comparing ic) name lead first bs k ≡ Nothing
+    pub unreached : (k : ℕ) → last_slot lead first bs (signature name) k ≡ 0 → last_named (comparing ic) name lead first bs k ≡ None
     unfolding last_slot last_named
     unreached zero h = refl
     unreached (suc k) h = go (eqb (signature (name_of lead first bs k)) (signature name)) refl (unreached k) h
       where
         go : (b : Bool) → eqb (signature (name_of lead first bs k)) (signature name) ≡ b
-            → (last_slot lead first bs (signature name) k ≡ 0 → last_named (comparing ic) name lead first bs k ≡ Nothing)
+            → (last_slot lead first bs (signature name) k ≡ 0 → last_named (comparing ic) name lead first bs k ≡ None)
             → cond b (slot_of lead first bs k) (last_slot lead first bs (signature name) k) ≡ 0
-            → cond (same_by (comparing ic) (name_of lead first bs k) name) (At k (place_after lead k first bs)) (last_named (comparing ic) name lead first bs k) ≡ Nothing
+            → cond (same_by (comparing ic) (name_of lead first bs k) name) (Some (record { index = k; at = place_after lead k first bs })) (last_named (comparing ic) name lead first bs k) ≡ None
         go true e ih h = absurd (omega arith)
         go false e ih h = rw (apart k e) (ih h)
 
     -- the entry has the name, or the one before it is asked
-    pub last-here : (m : ℕ) → same_by (comparing ic) (name_of lead first bs m) name ≡ true → last_named (comparing ic) name lead first bs (m + 1) ≡ At m (place_after lead m first bs)
+    pub last-here : (m : ℕ) → same_by (comparing ic) (name_of lead first bs m) name ≡ true → last_named (comparing ic) name lead first bs (m + 1) ≡ Some (record { index = m; at = place_after lead m first bs })
     unfolding last_named
     last-here m h = rw (add-one m, h)
 
@@ -103,58 +110,46 @@ module _ (lead first : ℕ) (bs : List ℕ) where
     last-before m h = rw (add-one m, h)
 
   -- no entry yet
-  pub chains-none : (index : List ℕ) → lead ≤ 1 → Blank lead index → Chains lead first bs index 0
+  pub indexed-none : (index : NameIndex) → lead ≤ 1 → Blank index → Indexed lead first 0 bs index
   unfolding last_slot
-  chains-none index l z = record { heads = λ q h. z.zeros (lead * 512 + q) (omega arith); links = λ m h. absurd (omega arith) }
+  indexed-none index l z = record { low = l; few = omega arith; heads = λ q h. z q; links = λ m h. absurd (omega arith) }
 
   -- one entry more
-  module _ (index : List ℕ) (m mark : ℕ) (low : lead ≤ 1) (few : m < 255) (long : length index ≡ 1024) (small : mark < 256)
-      (is : mark ≡ signature (name_of lead first bs m)) (c : Chains lead first bs index m) where
+  module _ (index : NameIndex) (m mark : ℕ) (few : m < 255) (wide : length index.heads ≡ 256) (long : length index.links ≡ 256) (small : mark < 256)
+      (is : mark ≡ signature (name_of lead first bs m)) (c : Indexed lead first m bs index) where
     -- the entry leads to the last one with its signature, and is that one from now on
-    abbrev linked : List ℕ
-    linked = set index (lead * 512 + 256 + m) (get_or index (lead * 512 + mark) 0)
-
-    abbrev added : List ℕ
-    added = set linked (lead * 512 + mark) (slot_of lead first bs m)
-
-    linked_long : length linked ≡ 1024
-    linked_long = length-set index (lead * 512 + 256 + m) _ ∙ long
-
-    -- a slot that is none of the two
-    other : (j : ℕ) → (j ≡ lead * 512 + mark → ⊥) → (j ≡ lead * 512 + 256 + m → ⊥) → get_or added j 0 ≡ get_or index j 0
-    other j h g = get_or-set_other linked (lead * 512 + mark) j (slot_of lead first bs m) 0 h ∙ get_or-set_other index (lead * 512 + 256 + m) j (get_or index (lead * 512 + mark) 0) 0 g
+    abbrev pub added : NameIndex
+    added = record { heads = set index.heads mark (slot_of lead first bs m); links = set index.links m (get_or index.heads mark 0) }
 
     head : (q : ℕ) → q < 256 → (b : Bool) → eqb (signature (name_of lead first bs m)) q ≡ b
-        → get_or added (lead * 512 + q) 0 ≡ cond b (slot_of lead first bs m) (last_slot lead first bs q m)
+        → get_or added.heads q 0 ≡ cond b (slot_of lead first bs m) (last_slot lead first bs q m)
     head q h true e =
         let z : q ≡ mark = sym (eqb-true _ _ e) ∙ sym is in
-        rw z (get_or-set_same linked (lead * 512 + mark) (slot_of lead first bs m) 0 (omega (arith, linked_long)))
-    head q h false e = other (lead * 512 + q) (λ z. true≢false (sym (ne z) ∙ e)) (λ z. omega arith) ∙ c.heads q h
+        rw z (get_or-set_same index.heads mark (slot_of lead first bs m) 0 (omega arith))
+    head q h false e = get_or-set_other index.heads mark q (slot_of lead first bs m) 0 (λ z. true≢false (sym (ne z) ∙ e)) ∙ c.heads q h
       where
-        ne : lead * 512 + q ≡ lead * 512 + mark → eqb (signature (name_of lead first bs m)) q ≡ true
-        ne z = let y : q ≡ mark = omega arith in eq-eqb _ _ (sym is ∙ sym y)
+        ne : q ≡ mark → eqb (signature (name_of lead first bs m)) q ≡ true
+        ne z = eq-eqb _ _ (sym is ∙ sym z)
 
     link : (j : ℕ) → j < m + 1 → (b : Bool) → eqb j m ≡ b
-        → get_or added (lead * 512 + 256 + j) 0 ≡ last_slot lead first bs (signature (name_of lead first bs j)) j
+        → get_or added.links j 0 ≡ last_slot lead first bs (signature (name_of lead first bs j)) j
     link j h true e =
         let z : j ≡ m = eqb-true _ _ e in
         rw z
-        (get_or-set_other linked (lead * 512 + mark) (lead * 512 + 256 + m) (slot_of lead first bs m) 0 (λ y. omega arith)
-        ∙ get_or-set_same index (lead * 512 + 256 + m) (get_or index (lead * 512 + mark) 0) 0 (omega arith)
+        (get_or-set_same index.links m (get_or index.heads mark 0) 0 (omega arith)
         ∙ c.heads mark small
         ∙ ap (λ (q : ℕ). last_slot lead first bs q m) is)
     link j h false e =
         let z : (j ≡ m → ⊥) = λ y. true≢false (sym (eq-eqb _ _ y) ∙ e) in
-        other (lead * 512 + 256 + j) (λ y. omega arith) (λ y. z (omega arith)) ∙ c.links j (omega (arith, z))
+        get_or-set_other index.links m j (get_or index.heads mark 0) 0 z ∙ c.links j (omega (arith, z))
 
-    pub chains-next : Chains lead first bs added (m + 1)
+    pub indexed-next : Indexed lead first (m + 1) bs added
     unfolding last_slot
-    chains-next = record { heads = λ q h. rw (add-one m) (head q h (eqb (signature (name_of lead first bs m)) q) refl); links = λ j h. link j h (eqb j m) refl }
-
-    pub elsewhere-next : (before : List ℕ) → Elsewhere lead before index → Elsewhere lead before added
-    elsewhere-next before e = record {
-      long = length-set linked (lead * 512 + mark) _ ∙ linked_long;
-      kept = λ j h. other j (λ y. h (omega arith)) (λ y. h (omega arith)) ∙ e.kept j h;
+    indexed-next = record {
+      low = c.low;
+      few = omega arith;
+      heads = λ q h. rw (add-one m) (head q h (eqb (signature (name_of lead first bs m)) q) refl);
+      links = λ j h. link j h (eqb j m) refl;
     }
 
 -- an entry more at the end: whether it has a name, where a name is found, whether it repeats one
@@ -168,19 +163,19 @@ named-snoc f name (d ∷ ds) e = go (same_by f d.name name) (same_by f e.name na
     go true false h = refl
     go false u h = h
 
-abbrev or_found : EntryFound → EntryFound → EntryFound
-or_found (At i p) b = At i p
-or_found Nothing b = b
+abbrev or_found : Option FoundEntry → Option FoundEntry → Option FoundEntry
+or_found (Some e) b = Some e
+or_found None b = b
 
 find-snoc : (f : ℕ → ℕ) (name : List ℕ) (es : List Entry) (e : Entry) (i : ℕ)
-    → find_from f i name (es ++ (e ∷ [])) ≡ or_found (find_from f i name es) (cond (same_by f e.name name) (At (i + length es) e.at) Nothing)
+    → find_from f i name (es ++ (e ∷ [])) ≡ or_found (find_from f i name es) (cond (same_by f e.name name) (Some (record { index = i + length es; at = e.at })) None)
 unfolding find_from
 find-snoc f name [] e i = let q : i + 0 ≡ i = omega arith in rw q
 find-snoc f name (d ∷ ds) e i = go (same_by f d.name name) (find-snoc f name ds e (suc i))
   where
-    go : (t : Bool) → find_from f (suc i) name (ds ++ (e ∷ [])) ≡ or_found (find_from f (suc i) name ds) (cond (same_by f e.name name) (At (suc i + length ds) e.at) Nothing)
-        → cond t (At i d.at) (find_from f (suc i) name (ds ++ (e ∷ [])))
-        ≡ or_found (cond t (At i d.at) (find_from f (suc i) name ds)) (cond (same_by f e.name name) (At (i + suc (length ds)) e.at) Nothing)
+    go : (t : Bool) → find_from f (suc i) name (ds ++ (e ∷ [])) ≡ or_found (find_from f (suc i) name ds) (cond (same_by f e.name name) (Some (record { index = suc i + length ds; at = e.at })) None)
+        → cond t (Some (record { index = i; at = d.at })) (find_from f (suc i) name (ds ++ (e ∷ [])))
+        ≡ or_found (cond t (Some (record { index = i; at = d.at })) (find_from f (suc i) name ds)) (cond (same_by f e.name name) (Some (record { index = i + suc (length ds); at = e.at })) None)
     go true h = refl
     go false h = let q : i + suc (length ds) ≡ suc i + length ds = omega arith in rw q h
 
@@ -240,12 +235,12 @@ named_other ic x name (e ∷ es) h g = go (same_by (comparing ic) e.name name) r
     go false p true q ih g = absurd (true≢false g)
     go false p false q ih g = ih g
 
-not_named : (f : ℕ → ℕ) (name : List ℕ) (es : List Entry) → is_named f name es ≡ false → find_from f 0 name es ≡ Nothing
+not_named : (f : ℕ → ℕ) (name : List ℕ) (es : List Entry) → is_named f name es ≡ false → find_from f 0 name es ≡ None
 not_named f name es h = go (find_from f 0 name es) (sym (named-found f 0 name es) ∙ h)
   where
-    go : (r : EntryFound) → is_found r ≡ false → r ≡ Nothing
-    go (At i p) h = absurd (true≢false h)
-    go Nothing h = refl
+    go : (r : Option FoundEntry) → is_found r ≡ false → r ≡ None
+    go (Some e) h = absurd (true≢false h)
+    go None h = refl
 
 module _ (lead first : ℕ) (bs : List ℕ) where
   entries-long : (n at : ℕ) → length (entries_from lead n at bs) ≡ n
@@ -266,28 +261,28 @@ module _ (lead first : ℕ) (bs : List ℕ) where
       ∙ go (same_by f (name_of lead first bs n) name) (named-last f name n)
     where
       go : (t : Bool) → is_named f name (entries_from lead n first bs) ≡ is_found (last_named f name lead first bs n)
-          → (t || is_named f name (entries_from lead n first bs)) ≡ is_found (cond t (At n (place_after lead n first bs)) (last_named f name lead first bs n))
+          → (t || is_named f name (entries_from lead n first bs)) ≡ is_found (cond t (Some (record { index = n; at = place_after lead n first bs })) (last_named f name lead first bs n))
       go true h = refl
       go false h = h
 
   zero-add : (n : ℕ) → 0 + n ≡ n
   zero-add n = omega arith
 
-  none-else : (r : EntryFound) → r ≡ or_found r Nothing
-  none-else (At i p) = refl
-  none-else Nothing = refl
+  none-else : (r : Option FoundEntry) → r ≡ or_found r None
+  none-else (Some e) = refl
+  none-else None = refl
 
   last_more : (ic : Bool) (name : List ℕ) (n : ℕ) → is_named fold (name_of lead first bs n) (entries_from lead n first bs) ≡ false
       → last_named (comparing ic) name lead first bs n ≡ find_from (comparing ic) 0 name (entries_from lead n first bs)
       → last_named (comparing ic) name lead first bs (suc n)
       ≡ or_found (find_from (comparing ic) 0 name (entries_from lead n first bs))
-      (cond (same_by (comparing ic) (name_of lead first bs n) name) (At (0 + length (entries_from lead n first bs)) (place_after lead n first bs)) Nothing)
+      (cond (same_by (comparing ic) (name_of lead first bs n) name) (Some (record { index = 0 + length (entries_from lead n first bs); at = place_after lead n first bs })) None)
   unfolding last_named
   last_more ic name n apart ih = go (same_by (comparing ic) (name_of lead first bs n) name) refl
     where
       go : (t : Bool) → same_by (comparing ic) (name_of lead first bs n) name ≡ t
-          → cond t (At n (place_after lead n first bs)) (last_named (comparing ic) name lead first bs n)
-          ≡ or_found (find_from (comparing ic) 0 name (entries_from lead n first bs)) (cond t (At (0 + length (entries_from lead n first bs)) (place_after lead n first bs)) Nothing)
+          → cond t (Some (record { index = n; at = place_after lead n first bs })) (last_named (comparing ic) name lead first bs n)
+          ≡ or_found (find_from (comparing ic) 0 name (entries_from lead n first bs)) (cond t (Some (record { index = 0 + length (entries_from lead n first bs); at = place_after lead n first bs })) None)
       go true q = rw (not_named (comparing ic) name (entries_from lead n first bs) (named_other ic (name_of lead first bs n) name (entries_from lead n first bs) q apart), entries-long n first, zero-add n)
       go false q = ih ∙ none-else (find_from (comparing ic) 0 name (entries_from lead n first bs))
 

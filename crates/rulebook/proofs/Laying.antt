@@ -8,7 +8,7 @@ use native.Mathlib.Omega.{arith}
 use lib.ListN.{length, get_or}
 use Rattle.ascii.specs.declared.Range.{Range}
 use Rattle.ascii.specs.Text.{part}
-use Rattle.rulebook.specs.Book.{rule_led, name_at, entry_at, entries_from, place_after, Laid}
+use Rattle.rulebook.specs.Book.{rule_led, name_at, entry_at, entries_from, names_from, place_after, Laid}
 
 module _ (lead : ℕ) (bs : List ℕ) where
   -- where entries lie, the first begins inside the book
@@ -52,6 +52,14 @@ module _ (lead : ℕ) (bs : List ℕ) where
   pub entries_none : (n at : ℕ) → n ≡ 0 → entries_from lead n at bs ≡ []
   unfolding entries_from
   entries_none n at e = rw e
+
+  pub names_next : (n m at : ℕ) (r : Range) → n ≡ m + 1 → r ≡ name_at lead at bs → names_from lead n at bs ≡ part bs r ∷ names_from lead m r.end bs
+  unfolding entries_from
+  names_next n m at r e q = rw (q, e, add-one m)
+
+  pub names_none : (n at : ℕ) → n ≡ 0 → names_from lead n at bs ≡ []
+  unfolding entries_from
+  names_none n at e = rw e
 
   -- one more at the end
   pub entries-snoc : (k at : ℕ) → entries_from lead (k + 1) at bs ≡ entries_from lead k at bs ++ (entry_at lead (place_after lead k at bs) bs ∷ [])

@@ -2,24 +2,23 @@
 -- Assumes nothing.
 use mathlib.Core.Path.{◌≡◌, refl}
 use mathlib.Core.Bool.{Bool, true, false, cond, ◌||◌}
-use Rattle.std.specs.Prelude.{Some, None}
+use Rattle.std.specs.Prelude.{Option, Some, None}
 use mathlib.Core.List.{List, [], ◌∷◌}
 use Prim.Native.Nat.{ℕ, suc, ◌+◌}
 use native.Mathlib.Numerals.{add-one}
 use Rattle.ascii.specs.declared.Range.{Range}
 use Rattle.ascii.specs.Ascii.{fold}
 use Rattle.ascii.specs.Text.{same_by, part}
-use Rattle.rulebook.specs.declared.EntryFound.{EntryFound}
-use Rattle.rulebook.specs.declared.EntryFound.TheVariants.{At, Nothing}
+use Rattle.rulebook.specs.declared.index.FoundEntry.{FoundEntry}
 use Rattle.rulebook.specs.Book.{Entry, name_at, entries_from, place_after}
 use Rattle.rulebook.specs.Check.{is_named, repeat_from}
 use Rattle.rulebook.specs.Lookup.{find_from}
 use Rattle.rulebook.proofs.Laying.{entries-snoc}
 
 -- a name that is found is an entry's
-abbrev pub is_found : EntryFound → Bool
-is_found (At i p) = true
-is_found Nothing = false
+abbrev pub is_found : Option FoundEntry → Bool
+is_found (Some e) = true
+is_found None = false
 
 pub named-found : (f : ℕ → ℕ) (i : ℕ) (name : List ℕ) (es : List Entry) → is_named f name es ≡ is_found (find_from f i name es)
 unfolding is_named find_from
@@ -27,7 +26,7 @@ named-found f i name [] = refl
 named-found f i name (e ∷ es) = go (same_by f e.name name) (named-found f (suc i) name es)
   where
     go : (b : Bool) → is_named f name es ≡ is_found (find_from f (suc i) name es)
-        → (b || is_named f name es) ≡ is_found (cond b (At i e.at) (find_from f (suc i) name es))
+        → (b || is_named f name es) ≡ is_found (cond b (Some (record { index = i; at = e.at })) (find_from f (suc i) name es))
     go true h = refl
     go false h = h
 

@@ -18,8 +18,8 @@ pub fn same(a: &[u8], b: &[u8], ignore_case: bool) -> bool
     // names that begin alike, as those that count upwards, differ near their end
     a.len() == b.len()
         && a.iter()
-            .zip(b)
             .rev()
+            .zip(b.iter().rev())
             .all(|(x, y)| same_byte(*x, *y, ignore_case))
 }
 

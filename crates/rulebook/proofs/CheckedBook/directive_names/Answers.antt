@@ -1,0 +1,16 @@
+-- `rulebook::CheckedBook::directive_names`: the book's directives are those of its header, which lie inside it.
+use Rattle.std.proofs.Common.{◌≡◌, map, ap, sym, ◌∙◌}
+use Rattle.rulebook.specs.Book.{Entry}
+use Rattle.rulebook.proofs.Forms.{valid-form}
+use Rattle.rulebook.proofs.Finding.{header-directives, book-directives}
+use Rattle.rulebook.proofs.CheckedBook.directive_names.Goals as goal
+
+pub names_of-requires : goal.names_of-requires
+names_of-requires c =
+    let b = c.args.self.now in
+    header-directives b.bytes.now b.header (valid-form b.bytes.now b.valid) b.header_read
+
+pub returns : goal.returns
+returns c =
+    let b = c.args.self.now in
+    c.names_of.ensures ∙ ap (map (λ (e : Entry). e.name)) (sym (book-directives b.bytes.now b.header b.header_read))

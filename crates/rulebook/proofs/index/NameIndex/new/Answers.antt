@@ -1,0 +1,6 @@
+-- `rulebook::index::NameIndex::new`: every slot is 0.
+use Rattle.rulebook.proofs.Indexing.{zero-at}
+use Rattle.rulebook.proofs.index.NameIndex.new.Goals as goal
+
+pub returns : goal.returns
+returns c = zero-at 256
