@@ -13,12 +13,11 @@ ghost use Rattle.coded.specs.Lines.{LinesCall, lines_call};
 ghost use Rattle.coded.specs.Sequences.{SequencesCall, sequences_call};
 
 use clause::ClauseRecord;
-use coded::{
-    code_of, language_of, line_code, lines, prefix_of, separator_of, sequence_code, sequences,
-};
-use delimiter::SplitAnswer;
-use rulebook::BookAnswer;
-use source::{CopyAnswer, JoinAnswer, SpanAnswer};
+use coded::lines::LineReader;
+use coded::parts::answer_parts;
+use coded::sequences::SequenceReader;
+use coded::{code_of, count_code, dialect_of, language_of, line_code, separator_of, sequence_code};
+use rulebook::index::Index;
 
 // Trim: the length of what is left, and its start and end in the two lent numbers.
 #[unsafe(no_mangle)]
@@ -27,10 +26,8 @@ pub extern "C" fn pelzurda_trim(text: &[u8], range: &mut [u64; 2]) -> u64
     ensures range_after { range.new ≡ range_ends (trimmed 0 text.now) }
 {
     let left = ascii::trim_range(text);
-    let start = left.start;
-    let end = left.end;
-    *range = [start as u64, end as u64];
-    (end - start) as u64
+    *range = [left.start as u64, left.end as u64];
+    (left.end - left.start) as u64
 }
 
 // Split: the number of items, with the start and end of each at the front of the slots.
@@ -45,11 +42,13 @@ pub extern "C" fn pelzurda_split(
     ensures value { result ≡ coded (split_call text.now (language_of language) (separator_of colon) (is_set angles) (length items.old)).answer }
     ensures after { items.new ≡ (split_call text.now (language_of language) (separator_of colon) (is_set angles) (length items.old)).items }
 {
-    let asked = language_of(language);
-    match delimiter::split_top_level(text, asked, separator_of(colon), angles != 0, items) {
-        SplitAnswer::Items(count) => count as u64,
-        SplitAnswer::Refused(refused) => code_of(refused),
-    }
+    count_code(delimiter::split_top_level(
+        text,
+        language_of(language),
+        separator_of(colon),
+        angles != 0,
+        items,
+    ))
 }
 
 // Join alone: the length of the text, which fills the front of its slots, as its map does.
@@ -65,10 +64,7 @@ pub extern "C" fn pelzurda_join(
     ensures text_after { text.new ≡ (join_call (language_of language) (prefix_of prefix) line.now (length text.old) (length map.old)).text }
     ensures map_after { map.new ≡ (join_call (language_of language) (prefix_of prefix) line.now (length text.old) (length map.old)).map }
 {
-    match source::join_line(language_of(language), prefix_of(prefix), line, text, map) {
-        JoinAnswer::Joined(length) => length as u64,
-        JoinAnswer::Refused(refused) => code_of(refused),
-    }
+    count_code(source::join_line(dialect_of(language, prefix), line, text, map))
 }
 
 // Map-back: 0, and the physical range of a joined one in the two lent numbers.
@@ -84,11 +80,11 @@ pub extern "C" fn pelzurda_map_back(
     ensures span_after { span.new ≡ span_ends (span_answer map.now text_len start end) }
 {
     match source::map_back(map, text_len, start, end) {
-        SpanAnswer::Found(found) => {
+        Ok(found) => {
             *span = [found.start as u64, found.end as u64];
             0
         }
-        SpanAnswer::Refused(refused) => {
+        Err(refused) => {
             *span = [0, 0];
             code_of(refused)
         }
@@ -101,10 +97,7 @@ pub extern "C" fn pelzurda_copy(content: &[u8], copy: &mut [u8]) -> u64
     ensures value { result ≡ coded (copy_call content.now (length copy.old)).answer }
     ensures copy_after { copy.new ≡ (copy_call content.now (length copy.old)).copy }
 {
-    match source::copy_content(content, copy) {
-        CopyAnswer::Copied(length) => length as u64,
-        CopyAnswer::Refused(refused) => code_of(refused),
-    }
+    count_code(source::copy_content(content, copy))
 }
 
 // Book check: 0 for a valid book.
@@ -113,8 +106,8 @@ pub extern "C" fn pelzurda_check_book(book: &[u8]) -> u64
     ensures { result ≡ coded_yes (book_call book.now) }
 {
     match rulebook::check_book(book) {
-        BookAnswer::Valid => 0,
-        BookAnswer::Refused(refused) => code_of(refused),
+        Ok(()) => 0,
+        Err(refused) => code_of(refused),
     }
 }
 
@@ -129,8 +122,7 @@ pub extern "C" fn pelzurda_sequence(
     ensures { record { answer = result; records = records.new; rest = rest.new }
         ≡ sequence_coded (sequence_call book.now text.now (length records.old)) }
 {
-    let answer = clause::parse_sequence(book, text, records);
-    sequence_code(answer, rest)
+    sequence_code(clause::parse_sequence(book, text, records), rest)
 }
 
 // The whole line: the directive's entry in the book, with the joined text, its map and the clause records at the front of their slots.
@@ -148,16 +140,11 @@ pub extern "C" fn pelzurda_line(
     ensures { record { answer = result; text = text.new; map = map.new; records = records.new; reading = reading.new }
         ≡ line_coded (line_call (language_of language) (prefix_of prefix) book.now line.now (length text.old) (length map.old) (length records.old)) }
 {
-    let answer = reader::read_line(
-        language_of(language),
-        prefix_of(prefix),
-        book,
-        line,
-        text,
-        map,
-        records,
-    );
-    line_code(answer, reading)
+    let dialect = dialect_of(language, prefix);
+    line_code(
+        reader::read_line(dialect, book, line, text, map, records),
+        reading,
+    )
 }
 
 // Many lines under one check of the book: the number of lines that were answered, each in its slot. Line i ends at its end number, and starts where the
@@ -177,16 +164,19 @@ pub extern "C" fn pelzurda_lines(
     ensures { record { count = result; text = text.new; map = map.new; answers = answers.new }
         ≡ lines_call (language_of language) (prefix_of prefix) book.now lines.now ends.now (length text.old) (length map.old) slots (length answers.old) }
 {
-    let mut index = [0u32; 1024];
-    let checked = rulebook::checked(book, &mut index);
-    let spoken = language_of(language);
-    let sought = prefix_of(prefix);
-    lines::answer_lines(
-        spoken, sought, book, checked, &index, lines, ends, text, map, slots, answers,
-    );
-    refusal::clear_bytes(text, 0);
-    refusal::clear_words(map, 0);
-    lines::lesser(ends.len(), answers.len()) as u64
+    let mut index = Index::new();
+    let mut reader = LineReader {
+        dialect: dialect_of(language, prefix),
+        book,
+        checked: rulebook::checked(book, &mut index),
+        text,
+        map,
+        slots,
+    };
+    let count = answer_parts(&mut reader, lines, ends, answers);
+    text.fill(0);
+    map.fill(0);
+    count as u64
 }
 
 // Many clause sequences under one check of the book: the number of texts that were answered, each in its slot. Text i ends at its end number, and starts
@@ -202,8 +192,11 @@ pub extern "C" fn pelzurda_sequences(
     ensures { record { count = result; answers = answers.new }
         ≡ sequences_call book.now texts.now ends.now slots (length answers.old) }
 {
-    let mut index = [0u32; 1024];
-    let checked = rulebook::checked(book, &mut index);
-    sequences::answer_sequences(book, checked, &index, texts, ends, slots, answers);
-    lines::lesser(ends.len(), answers.len()) as u64
+    let mut index = Index::new();
+    let mut reader = SequenceReader {
+        book,
+        checked: rulebook::checked(book, &mut index),
+        slots,
+    };
+    answer_parts(&mut reader, texts, ends, answers) as u64
 }

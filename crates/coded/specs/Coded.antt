@@ -8,7 +8,6 @@ use Rattle.lexer.specs.declared.Language.{Language}
 use Rattle.lexer.specs.declared.Language.TheVariants.{C, FortranFree, FortranFixed}
 use Rattle.lexer.specs.declared.Prefix.{Prefix}
 use Rattle.lexer.specs.declared.Prefix.TheVariants.{Omp, Acc}
-use Rattle.source.specs.declared.Span.{Span}
 use Rattle.clause.specs.declared.ClauseRecord.{ClauseRecord}
 use Rattle.clause.specs.declared.SequenceEnd.{SequenceEnd}
 use Rattle.clause.specs.Calls.{SequenceCall}
@@ -34,7 +33,7 @@ coded_yes (given a) = 0
 coded_yes (refused n place) = coded_refusal n place
 
 -- the two lent numbers of map-back: the physical range, or zeros
-abbrev pub span_ends : Answer Span → List ℕ
+abbrev pub span_ends : Answer Range → List ℕ
 span_ends (given s) = s.start ∷ s.end ∷ []
 span_ends (refused n place) = 0 ∷ 0 ∷ []
 

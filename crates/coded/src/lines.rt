@@ -1,92 +1,57 @@
 // The answers of many lines under one check of their book.
-ghost use Rattle.std.specs.Prelude.{◌≡◌, ◌≤◌, min, length};
-ghost use Rattle.rulebook.specs.Check.{Stands};
-ghost use Rattle.rulebook.specs.Index.{Indexes};
-ghost use Rattle.reader.specs.Calls.{line_gives};
+ghost use Rattle.std.specs.Prelude.{◌≡◌, length};
+ghost use Rattle.refusal.specs.Answer.{told};
+ghost use Rattle.clause.specs.Calls.{Judged};
 ghost use Rattle.coded.specs.Coded.{coded_reading};
-ghost use Rattle.coded.specs.Lines.{end_of, no_line, line_between, answers_from};
+ghost use Rattle.reader.specs.Calls.{line_call};
 
 use crate::code_of;
-use lexer::{Language, Prefix};
-use reader::{LineAnswer, many};
+use crate::parts::AnswerPart;
+use lexer::Dialect;
+use reader::{Reading, many};
+use refusal::Refusal;
 use rulebook::CheckedBook;
 
 // A line's answer as five numbers.
-fn line_numbers(answer: LineAnswer) -> [u64; 5]
-    ensures { result ≡ coded_reading (line_gives answer) }
+pub fn line_numbers(answer: Result<Reading, Refusal>) -> [u64; 5]
+    ensures { result ≡ coded_reading (told answer) }
 {
     match answer {
-        LineAnswer::Read(read) => {
-            let entry = read.entry as u64;
-            let name_start = read.name_start as u64;
-            let name_end = read.name_end as u64;
-            [
-                entry,
-                name_start,
-                name_end,
-                read.count as u64,
-                read.rest as u64,
-            ]
-        }
-        LineAnswer::Refused(refused) => [code_of(refused), 0, 0, 0, 0],
+        Ok(read) => [
+            read.entry as u64,
+            read.name_start as u64,
+            read.name_end as u64,
+            read.count as u64,
+            read.rest as u64,
+        ],
+        Err(refused) => [code_of(refused), 0, 0, 0, 0],
     }
 }
 
-// Where a line ends that starts at a place: no earlier, and not behind the bytes.
-pub fn line_end(size: usize, at: usize, end: usize) -> usize
-    requires { at ≤ size }
-    ensures { (result ≡ end_of size at end) × (at ≤ result) × (result ≤ size) }
-{
-    if end < at {
-        return at;
-    }
-    if size < end { size } else { end }
+// What a line is read with: its book as the check left it, and working space. What text and map hold after a line is not said.
+#[derive(Drop)]
+pub struct LineReader<'a, 'b> {
+    pub dialect: Dialect,
+    pub book: &'a [u8],
+    pub checked: Result<CheckedBook<'a>, Refusal>,
+    pub text: &'b mut [u8],
+    pub map: &'b mut [u16],
+    // record slots that a line may take
+    pub slots: usize,
+    pub ghost judged: { Judged book.now checked },
 }
 
-// The answer of each line in its slot; a slot with no line is zeroed. What text and map hold afterwards is not said.
-pub fn answer_lines(
-    language: Language,
-    prefix: Prefix,
-    book: &[u8],
-    checked: CheckedBook,
-    index: &[u32],
-    lines: &[u8],
-    ends: &[usize],
-    text: &mut [u8],
-    map: &mut [u16],
-    slots: usize,
-    answers: &mut [[u64; 5]],
-)
-    requires stands { Stands book.now checked }
-    requires indexes { Indexes book.now index.now }
-    ensures { answers.new
-        ≡ answers_from (line_between language prefix book.now lines.now (length text.old) (length map.old) slots) no_line
-        (length lines.now) (length answers.old) 0 ends.now }
-{
-    let mut at = 0;
-    let mut i = 0;
-    while i < answers.len() {
-        if i < ends.len() {
-            let stop = line_end(lines.len(), at, ends[i]);
-            let line = &lines[at..stop];
-            let answer = many::line_answer(
-                language, prefix, book, checked, index, line, text, map, slots,
-            );
-            let numbers = line_numbers(answer);
-            answers[i] = numbers;
-            at = stop;
-            i += 1;
-        } else {
-            let zeros = [0, 0, 0, 0, 0];
-            answers[i] = zeros;
-            i += 1;
-        }
-    }
-}
+impl AnswerPart<5> for LineReader<'_, '_> {
+    ghost answers = { λ r line. coded_reading (line_call r.dialect.language r.dialect.prefix r.book.now line (length r.text.now) (length r.map.now) r.slots).answer };
 
-// The lesser of two numbers.
-pub fn lesser(a: usize, b: usize) -> usize
-    ensures { result ≡ min a b }
-{
-    if a < b { a } else { b }
+    fn answer(&mut self, line: &[u8]) -> [u64; 5] {
+        line_numbers(many::line_answer(
+            self.dialect,
+            &self.checked,
+            line,
+            self.text,
+            self.map,
+            self.slots,
+        ))
+    }
 }

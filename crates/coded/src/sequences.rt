@@ -1,56 +1,39 @@
 // The answers of many clause sequences under one check of their book.
 ghost use Rattle.std.specs.Prelude.{◌≡◌, length};
-ghost use Rattle.rulebook.specs.Check.{Stands};
-ghost use Rattle.rulebook.specs.Index.{Indexes};
-ghost use Rattle.clause.specs.Calls.{sequence_gives};
-ghost use Rattle.coded.specs.Lines.{answers_from};
-ghost use Rattle.coded.specs.Sequences.{coded_end, no_sequence, sequence_between};
+ghost use Rattle.refusal.specs.Answer.{told};
+ghost use Rattle.clause.specs.Calls.{Judged, sequence_call};
+ghost use Rattle.coded.specs.Sequences.{coded_end};
 
 use crate::code_of;
-use crate::lines::line_end;
-use clause::{SequenceAnswer, many};
+use crate::parts::AnswerPart;
+use clause::{SequenceEnd, many};
+use refusal::Refusal;
 use rulebook::CheckedBook;
 
 // A sequence's answer as two numbers.
-fn sequence_numbers(answer: SequenceAnswer) -> [u64; 2]
-    ensures { result ≡ coded_end (sequence_gives answer) }
+pub fn sequence_numbers(answer: Result<SequenceEnd, Refusal>) -> [u64; 2]
+    ensures { result ≡ coded_end (told answer) }
 {
     match answer {
-        SequenceAnswer::Read(end) => [end.count as u64, end.rest as u64],
-        SequenceAnswer::Refused(refused) => [code_of(refused), 0],
+        Ok(end) => [end.count as u64, end.rest as u64],
+        Err(refused) => [code_of(refused), 0],
     }
 }
 
-// The answer of each text in its slot; a slot with no text is zeroed.
-pub fn answer_sequences(
-    book: &[u8],
-    checked: CheckedBook,
-    index: &[u32],
-    texts: &[u8],
-    ends: &[usize],
-    slots: usize,
-    answers: &mut [[u64; 2]],
-)
-    requires stands { Stands book.now checked }
-    requires indexes { Indexes book.now index.now }
-    ensures { answers.new
-        ≡ answers_from (sequence_between book.now texts.now slots) no_sequence (length texts.now) (length answers.old) 0 ends.now }
-{
-    let mut at = 0;
-    let mut i = 0;
-    while i < answers.len() {
-        if i < ends.len() {
-            let stop = line_end(texts.len(), at, ends[i]);
-            let text = &texts[at..stop];
-            let answer = many::sequence_answer(book, checked, index, text, slots);
-            let numbers = sequence_numbers(answer);
-            answers[i] = numbers;
-            at = stop;
-            i += 1;
-        } else {
-            let zeros = [0, 0];
-            answers[i] = zeros;
-            i += 1;
-        }
+// What a sequence is read with: its book as the check left it.
+#[derive(Clone, Copy)]
+pub struct SequenceReader<'a> {
+    pub book: &'a [u8],
+    pub checked: Result<CheckedBook<'a>, Refusal>,
+    // record slots that a sequence may take
+    pub slots: usize,
+    pub ghost judged: { Judged book.now checked },
+}
+
+impl AnswerPart<2> for SequenceReader<'_> {
+    ghost answers = { λ r text. coded_end (sequence_call r.book.now text r.slots).answer };
+
+    fn answer(&mut self, text: &[u8]) -> [u64; 2] {
+        sequence_numbers(many::sequence_answer(&self.checked, text, self.slots))
     }
 }
