@@ -2,69 +2,41 @@
 -- A clause that is read has an entry of the shorter book, and that entry is found in the longer one too; so turn by turn. Assumes nothing.
 use Prim.Native.Nat.{ℕ, zero, suc, ◌+◌, ◌-◌, ◌<◌}
 use mathlib.Core.Bool.{Bool, false}
-use Rattle.std.specs.Prelude.{Some}
+use Rattle.std.specs.Prelude.{Some, Result, Ok, Err}
 use mathlib.Core.Path.{◌≡◌, refl, ap, sym, ◌∙◌}
 use mathlib.Core.List.{List, [], ◌∷◌}
 use native.Mathlib.Omega.{arith}
 use lib.ListN.{length, drop}
+use Rattle.refusal.specs.declared.Refusal.{Refusal}
+use Rattle.refusal.specs.Table.{number_of}
 use Rattle.refusal.specs.Answer.{given, admitted}
 use Rattle.refusal.proofs.Answers.{never, Keeps, keeps-admitted, keeps_then}
-use Rattle.code.specs.declared.Match.{Match}
-use Rattle.code.specs.declared.Match.TheVariants.{ClosedAt, Unmatched, DeepAt}
-use Rattle.code.specs.Matching.{matching}
-use Rattle.lexer.specs.declared.Skipped.{Skipped}
-use Rattle.lexer.specs.declared.Skipped.TheVariants.{Past, OpenAt}
 use Rattle.lexer.specs.Trivia.{skip}
-use Rattle.bookform.specs.declared.ClauseRule.{ClauseRule}
-use Rattle.bookform.specs.declared.ClauseRule.TheVariants.{Bare, Parenthesized, Flexible, Unsupported}
+use Rattle.bookform.specs.declared.ClauseRule.TheVariants.{Unsupported}
 use Rattle.rulebook.specs.Book.{Book, book_of}
 use Rattle.rulebook.specs.Lookup.{IsAppended}
 use Rattle.rulebook.proofs.Appended.{entry_from-below, entry_from-appended, rule_at-appended}
-use Rattle.clause.specs.declared.ClauseRecord.{ClauseRecord}
-use Rattle.clause.specs.Clause.{clause, style, closing, argument, word_length, found, clause_at}
-use Rattle.clause.specs.Sequence.{at_comma, separated, Sequence, sequence_from, sequence_at}
+use Rattle.clause.specs.declared.ClauseRead.{ClauseRead}
+use Rattle.clause.specs.Clause.{word_length, found, clause_at}
+use Rattle.clause.specs.Sequence.{separated, Sequence, sequence_from, sequence_at}
 use Rattle.clause.specs.Calls.{counted, sequence_call}
 use Rattle.clause.specs.Laws.{AppendedNamesKeepSequences}
 use Rattle.clause.proofs.Turns.{clause-found, turn-of}
-
--- what is read after a clause's name is known depends on the book's bit 0 alone
-module _ (text : List ℕ) (start end i : ℕ) where
-  closing_same : (b d : Book) (p : ℕ) (m : Match) → closing b text start end i p m ≡ closing d text start end i p m
-  closing_same b d p (ClosedAt q) = refl
-  closing_same b d p Unmatched = refl
-  closing_same b d p (DeepAt q) = refl
-
-  argument-same : (b d : Book) → b.ignores_case ≡ d.ignores_case → (rule : ClauseRule) (s : Skipped)
-      → argument b text start end i rule s ≡ argument d text start end i rule s
-  argument-same b d e Bare s = refl
-  argument-same b d e Parenthesized (Past p) = rw (e, closing_same b d p (matching (style d text) (suc p) (drop (suc p) text)))
-  argument-same b d e Parenthesized (OpenAt p) = refl
-  argument-same b d e Flexible (Past p) = rw (e, closing_same b d p (matching (style d text) (suc p) (drop (suc p) text)))
-  argument-same b d e Flexible (OpenAt p) = refl
-  argument-same b d e Unsupported s = refl
-
-module _ (b d : Book) (text : List ℕ) (same : b.ignores_case ≡ d.ignores_case) where
-  at_comma-same : (s : Skipped) → at_comma b text s ≡ at_comma d text s
-  at_comma-same (Past p) = rw same
-  at_comma-same (OpenAt p) = refl
-
-  separated-same : (at : ℕ) → separated b text at ≡ separated d text at
-  separated-same at = rw (at_comma-same, same)
 
 -- a clause and a sequence are read alike with names appended
 module _ (short long : Book) (a : IsAppended short long) (strict : short.default ≡ Unsupported) (text : List ℕ) where
   found-kept : (at i : ℕ) → found short text at ≡ Some i → found long text at ≡ Some i
   found-kept at i h = rw a.same_case (entry_from-appended short.clauses long.clauses a.more a.same_names _ _ _ _ h)
 
-  clause-kept : (at : ℕ) (r : ClauseRecord) (after : ℕ) → clause_at short text at ≡ clause r after → clause_at long text at ≡ clause r after
+  clause-kept : (at : ℕ) (c : ClauseRead) → clause_at short text at ≡ Ok c → clause_at long text at ≡ Ok c
   unfolding clause_at
-  clause-kept at r after h =
-      let (i, fs, _) = clause-found short text at r after strict h in
+  clause-kept at c h =
+      let (i, fs, _) = clause-found short text at c strict h in
       let fl = found-kept at i fs in
       let b = entry_from-below _ 0 i _ short.clauses fs in
       let below : i < length short.clauses = omega arith in
       let rules = rule_at-appended short.clauses long.clauses a.more a.same_rules short.default i below in
-      rw (fl, argument-same text at (at + word_length short text at) i long short a.same_case, a.same_default, rules, a.same_case) (rw fs at h)
+      rw (fl, a.same_default, rules, a.same_case) (rw fs at h)
 
   sequence-kept : (room : ℕ) (comma : Bool) (k at : ℕ) (xs : List ℕ) (s : Sequence)
       → sequence_from short text room comma k at xs ≡ given s → sequence_from long text room comma k at xs ≡ given s
@@ -74,18 +46,18 @@ module _ (short long : Book) (a : IsAppended short long) (strict : short.default
   sequence-kept room comma (suc k) at (x ∷ xs) s h = sequence-kept room comma k (suc at) xs s h
   sequence-kept room comma zero at (x ∷ xs) s h =
       let t = turn-of short text room comma at x xs s strict h in
-      let e = clause-kept at t.read t.end t.reads in
-      let n = separated-same long short text a.same_case t.end ∙ t.separates in
-      let g = sequence-kept (room - 1) t.after (t.next - suc at) (suc at) xs t.later t.goes_on in
+      let e = clause-kept at t.read t.reads in
+      let n = rw (← a.same_case) at t.separates in
+      let g = sequence-kept (room - 1) t.after.comma (t.after.next - suc at) (suc at) xs t.later t.goes_on in
       rw (sequence_from, e, t.has_room, n, g) (ap given (sym t.gives))
 
   pub sequence_at-kept : (room at : ℕ) → Keeps (sequence_at short text room at) (sequence_at long text room at)
   unfolding sequence_at
   sequence_at-kept room at s h = go (skip short.ignores_case text at) refl
     where
-      go : (p : Skipped) → skip short.ignores_case text at ≡ p → sequence_at long text room at ≡ given s
-      go (Past p) e = rw (sequence_at, a.same_case, e) (sequence-kept room false zero p (drop p text) s (rw (sequence_at, e) at h))
-      go (OpenAt p) e = never _ 8 p s (rw (sequence_at, e) at h)
+      go : (p : Result ℕ Refusal) → skip short.ignores_case text at ≡ p → sequence_at long text room at ≡ given s
+      go (Ok p) e = rw (sequence_at, a.same_case, e) (sequence-kept room false zero p (drop p text) s (rw (sequence_at, e) at h))
+      go (Err r) e = never _ (number_of r.reason) r.place s (rw (sequence_at, e) at h)
 
 -- the same of the call
 pub appended-names-keep-sequences : AppendedNamesKeepSequences

@@ -3,21 +3,21 @@
 use Prim.Native.Nat.{ℕ, zero, suc, ◌+◌, ◌-◌, ◌<◌}
 use mathlib.Core.Bool.{true≢false, false}
 use mathlib.Core.Path.{◌≡◌, refl, sym, ap, subst, ◌∙◌}
-use mathlib.Core.List.{List, ◌++◌}
+use mathlib.Core.List.{List}
 use native.Mathlib.Omega.{arith}
-use lib.ListN.{length, take, replicate}
-use Rattle.refusal.specs.Answer.{given, and_then}
+use Rattle.std.specs.Prelude.{Result, Ok, Err}
+use Rattle.refusal.specs.declared.Refusal.{Refusal}
+use Rattle.refusal.specs.Answer.{given, and_then, told}
 use Rattle.rulebook.specs.Book.{book_of}
 use Rattle.clause.specs.declared.SequenceState.{SequenceState}
-use Rattle.clause.specs.declared.SequenceAnswer.{SequenceAnswer}
+use Rattle.clause.specs.declared.SequenceEnd.{SequenceEnd}
 use Rattle.clause.specs.declared.Progress.{Progress}
-use Rattle.clause.specs.Clause.{zero_record}
-use Rattle.clause.specs.Calls.{SequenceCall, counted, sequence_gives}
-use Rattle.clause.specs.Steps.{Proper, Started, onward, is_going, next_state, state_at, records_from, answer_by, answer_of, kept_of, read_on}
+use Rattle.clause.specs.Calls.{SequenceCall, counted}
+use Rattle.clause.specs.Steps.{Proper, Started, onward, is_going, next_state, state_at, records_from, answer_by, answer_of, read_on}
 use Rattle.clause.proofs.Properness.{proper-at}
-use Rattle.clause.proofs.Sequencing.{settles}
+use Rattle.clause.proofs.Sequencing.{left_by, settles}
 
-abbrev Answers : SequenceAnswer → SequenceState → Type 0
+abbrev Answers : Result SequenceEnd Refusal → SequenceState → Type 0
 Answers a s = (answer_of s ≡ a) × (is_going s.progress ≡ false)
 
 -- a step that changes nothing
@@ -46,14 +46,14 @@ module _ (bk t : List ℕ) (s₀ : SequenceState) (n : ℕ) (started : Started b
   pub proper-step : (s : SequenceState) (i : ℕ) → s ≡ state_at bk t s₀ i → Proper bk t s
   proper-step s i e = subst (Proper bk t) (sym e) (proper-at bk t s₀ started.proper i)
 
-  pub counts : (r : SequenceAnswer) → r ≡ answer_of (next_state bk t (state_at bk t s₀ n)) → sequence_gives r ≡ and_then (read_on bk t s₀) (λ s. given (counted s))
+  pub counts : (r : Result SequenceEnd Refusal) → r ≡ answer_of (next_state bk t (state_at bk t s₀ n)) → told r ≡ and_then (read_on bk t s₀) (λ s. given (counted s))
   counts r e =
       let zs = records_from bk t s₀ 0 n in
-      ap (λ (c : SequenceCall). c.answer) (settles bk t s₀ n started r zs (take (kept_of n r) zs ++ replicate (length zs - kept_of n r) zero_record) (kept_of n r) e refl refl refl)
+      ap (λ (c : SequenceCall). c.answer) (settles bk t s₀ n started r zs (left_by r zs) e refl refl)
 
   -- after a step that ends the list
-  pub counts-ended : (s : SequenceState) (i : ℕ) (r : SequenceAnswer) → s ≡ state_at bk t s₀ (i + 1) → i < n → is_going s.progress ≡ false → r ≡ answer_of (next_state bk t s)
-      → sequence_gives r ≡ and_then (read_on bk t s₀) (λ s. given (counted s))
+  pub counts-ended : (s : SequenceState) (i : ℕ) (r : Result SequenceEnd Refusal) → s ≡ state_at bk t s₀ (i + 1) → i < n → is_going s.progress ≡ false → r ≡ answer_of (next_state bk t s)
+      → told r ≡ and_then (read_on bk t s₀) (λ s. given (counted s))
   unfolding state_at
   counts-ended s i r e h g a =
       let d : is_going (state_at bk t s₀ (i + 1)).progress ≡ false = rw e at g in

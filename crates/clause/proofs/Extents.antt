@@ -5,24 +5,24 @@ use mathlib.Core.Bool.{Bool, true, false, cond}
 use mathlib.Core.Path.{◌≡◌, refl, sym, ◌∙◌}
 use mathlib.Core.List.{List, [], ◌∷◌}
 use native.Mathlib.Omega.{arith}
+use Rattle.std.specs.Prelude.{Option, Some, None, Result, Ok, Err}
 use lib.ListN.{length, drop, get_or, length-drop, get_or-eq_default}
 use lib.Dec.{eqb, ltb}
 use borrow.Author.Tests.{eqb-true, eqb-false}
 use Rattle.ascii.specs.Ascii.{is_word}
 use Rattle.ascii.specs.Text.{starts}
 use Rattle.ascii.proofs.Texts.{leading_le}
+use Rattle.refusal.specs.declared.Reason.{Reason}
+use Rattle.refusal.specs.declared.Refusal.{Refusal}
 use Rattle.code.specs.declared.CommentStyle.{CommentStyle}
-use Rattle.code.specs.declared.Match.{Match}
-use Rattle.code.specs.declared.Match.TheVariants.{ClosedAt, Unmatched, DeepAt}
+use Rattle.code.specs.declared.NoMatch.TheVariants.{Unmatched, DeepAt}
 use Rattle.code.specs.declared.Piece.{Piece}
 use Rattle.code.specs.declared.Piece.TheVariants.{Code, Hidden, OpenQuote, OpenComment}
 use Rattle.code.specs.declared.Unclosed.{Unclosed}
-use Rattle.code.specs.declared.Unclosed.TheVariants.{Nothing, Quote, Comment}
+use Rattle.code.specs.declared.Unclosed.TheVariants.{Quote, Comment}
 use Rattle.code.specs.Code.{CodeByte, Scan, piece, rest, placed, scan_from}
 use Rattle.code.specs.Bracket.{is_empty, Brackets, held, deep as too_deep, wrong, taken}
-use Rattle.code.specs.Matching.{matched, match_from, unless_open, matching}
-use Rattle.lexer.specs.declared.Skipped.{Skipped}
-use Rattle.lexer.specs.declared.Skipped.TheVariants.{Past, OpenAt}
+use Rattle.code.specs.Matching.{Match, matched, match_from, unless_open, matching}
 use Rattle.lexer.specs.Trivia.{skip}
 use Rattle.lexer.proofs.Bounds.{skip-bounds}
 use Rattle.bookform.specs.declared.ClauseRule.{ClauseRule}
@@ -30,8 +30,9 @@ use Rattle.bookform.specs.declared.ClauseRule.TheVariants.{Bare, Parenthesized, 
 use Rattle.rulebook.specs.Book.{Book}
 use Rattle.rulebook.specs.Lookup.{index_or, rule_or}
 use Rattle.clause.proofs.Walking.{by-truth, is-less, is-over}
-use Rattle.clause.specs.Clause.{Read, clause, failed, deep, style, closing, argument, word_length, found, clause_at}
-use Rattle.clause.specs.Sequence.{Separated, then, open_comment, after_comma, at_comma, separated}
+use Rattle.clause.specs.declared.Separation.{Separation}
+use Rattle.clause.specs.Clause.{Read, failed, style, closing, argument, word_length, found, clause_at}
+use Rattle.clause.specs.Sequence.{after_comma, at_comma, separated}
 
 -- every code byte stands at a place from low on, before high
 abbrev Within : ℕ → ℕ → List CodeByte → Type 0
@@ -60,16 +61,15 @@ scan-within y (x ∷ xs) zero at high h =
 
 -- a match stands at a place from low on, before high
 abbrev pub Closes : ℕ → ℕ → Match → Type 0
-Closes low high (ClosedAt q) = (low ≤ q) × (q < high)
-Closes low high Unmatched = Unit {0}
-Closes low high (DeepAt q) = Unit {0}
+Closes low high (Ok q) = (low ≤ q) × (q < high)
+Closes low high (Err e) = Unit {0}
 
 closes-cond : (low high : ℕ) (t : Bool) (x y : Match) → Closes low high x → Closes low high y → Closes low high (cond t x y)
 closes-cond low high true x y h k = h
 closes-cond low high false x y h k = k
 
 matched-closes : (low high : ℕ) (b : Brackets) (p : ℕ) (more : List ℕ → Match) → low ≤ p → p < high → ((l : List ℕ) → Closes low high (more l)) → Closes low high (matched b p more)
-matched-closes low high (held l) p more a z h = closes-cond low high (is_empty l) (ClosedAt p) (more l) (a, z) (h l)
+matched-closes low high (held l) p more a z h = closes-cond low high (is_empty l) (Ok p) (more l) (a, z) (h l)
 matched-closes low high too_deep p more a z h = tt
 matched-closes low high wrong p more a z h = tt
 
@@ -78,10 +78,10 @@ unfolding match_from
 match-closes low high [] stack h = tt
 match-closes low high (c ∷ cs) stack h = matched-closes low high (taken stack c.byte) c.place _ h.0 h.1 (λ l. match-closes low high cs l h.2)
 
-unless-closes : (low high : ℕ) (u : Unclosed) (m : Match) → Closes low high m → Closes low high (unless_open u m)
-unless-closes low high Nothing m h = h
-unless-closes low high (Quote p) m h = tt
-unless-closes low high (Comment p) m h = tt
+unless-closes : (low high : ℕ) (u : Option Unclosed) (m : Match) → Closes low high m → Closes low high (unless_open u m)
+unless-closes low high None m h = h
+unless-closes low high (Some (Quote p)) m h = tt
+unless-closes low high (Some (Comment p)) m h = tt
 
 matching-closes : (y : CommentStyle) (at : ℕ) (xs : List ℕ) (high : ℕ) → at + length xs ≤ high → Closes at high (matching y at xs)
 unfolding matching
@@ -102,35 +102,34 @@ starts-inside b p text h =
 
 -- a clause ends behind its start, within n bytes
 abbrev pub EndsWithin : ℕ → ℕ → Read → Type 0
-EndsWithin at n (clause r end) = (at < end) × (end ≤ n)
-EndsWithin at n (failed k p) = Unit {0}
-EndsWithin at n (deep p) = Unit {0}
+EndsWithin at n (Ok c) = (at < c.end) × (c.end ≤ n)
+EndsWithin at n (Err e) = Unit {0}
 
 ends-cond : (at n : ℕ) (t : Bool) (x y : Read) → (t ≡ true → EndsWithin at n x) → (t ≡ false → EndsWithin at n y) → EndsWithin at n (cond t x y)
 ends-cond at n true x y h k = h refl
 ends-cond at n false x y h k = k refl
 
-module _ (book : Book) (text : List ℕ) (at end i : ℕ) (a : at < end) (z : end ≤ length text) where
-  closing-ends : (p : ℕ) (m : Match) → end ≤ p → Closes (suc p) (length text) m → EndsWithin at (length text) (closing book text at end i p m)
-  closing-ends p (ClosedAt q) l h = (omega arith, omega arith)
-  closing-ends p Unmatched l h = tt
-  closing-ends p (DeepAt q) l h = tt
+module _ (f : Bool) (text : List ℕ) (at end i : ℕ) (a : at < end) (z : end ≤ length text) where
+  closing-ends : (p : ℕ) (m : Match) → end ≤ p → Closes (suc p) (length text) m → EndsWithin at (length text) (closing f text at end i p m)
+  closing-ends p (Ok q) l h = (omega arith, omega arith)
+  closing-ends p (Err Unmatched) l h = tt
+  closing-ends p (Err (DeepAt q)) l h = tt
 
-  opened-ends : (p : ℕ) → end ≤ p → starts 40 (drop p text) ≡ true → EndsWithin at (length text) (closing book text at end i p (matching (style book text) (suc p) (drop (suc p) text)))
+  opened-ends : (p : ℕ) → end ≤ p → starts 40 (drop p text) ≡ true → EndsWithin at (length text) (closing f text at end i p (matching (style f) (suc p) (drop (suc p) text)))
   opened-ends p l t =
       let inside = starts-inside 39 p text t in
-      closing-ends p (matching (style book text) (suc p) (drop (suc p) text)) l (matching-within (style book text) text (suc p) (omega arith))
+      closing-ends p (matching (style f) (suc p) (drop (suc p) text)) l (matching-within (style f) text (suc p) (omega arith))
 
-  argument-ends : (rule : ClauseRule) (s : Skipped) → skip book.ignores_case text end ≡ s → EndsWithin at (length text) (argument book text at end i rule s)
+  argument-ends : (rule : ClauseRule) (s : Result ℕ Refusal) → skip f text end ≡ s → EndsWithin at (length text) (argument f text at end i rule s)
   argument-ends Bare s e = (a, z)
-  argument-ends Parenthesized (Past p) e =
-      let b = skip-bounds book.ignores_case text end p e in
-      ends-cond at (length text) (starts 40 (drop p text)) _ (failed 11 p) (λ t. opened-ends p b.0 t) (λ t. tt)
-  argument-ends Parenthesized (OpenAt p) e = tt
-  argument-ends Flexible (Past p) e =
-      let b = skip-bounds book.ignores_case text end p e in
-      ends-cond at (length text) (starts 40 (drop p text)) _ (argument book text at end i Bare (Past p)) (λ t. opened-ends p b.0 t) (λ t. (a, z))
-  argument-ends Flexible (OpenAt p) e = tt
+  argument-ends Parenthesized (Ok p) e =
+      let b = skip-bounds f text end p e in
+      ends-cond at (length text) (starts 40 (drop p text)) _ (failed Reason.NoParenthesis p) (λ t. opened-ends p b.0 t) (λ t. tt)
+  argument-ends Parenthesized (Err r) e = tt
+  argument-ends Flexible (Ok p) e =
+      let b = skip-bounds f text end p e in
+      ends-cond at (length text) (starts 40 (drop p text)) _ (argument f text at end i Bare (Ok p)) (λ t. opened-ends p b.0 t) (λ t. (a, z))
+  argument-ends Flexible (Err r) e = tt
   argument-ends Unsupported s e = tt
 
 pub clause-ends : (book : Book) (text : List ℕ) (at : ℕ) → at ≤ length text → EndsWithin at (length text) (clause_at book text at)
@@ -138,31 +137,31 @@ unfolding clause_at
 clause-ends book text at h =
     let w = word_length book text at in
     let l : w ≤ length text - at = rw length-drop at (leading_le is_word (drop at text)) in
-    ends-cond at (length text) (eqb w 0) (failed 10 at) _ (λ t. tt)
+    ends-cond at (length text) (eqb w 0) (failed Reason.NoClause at) _ (λ t. tt)
     (λ t. let more = eqb-false w 0 t in
-    argument-ends book text at (at + w) (index_or (found book text at)) (omega arith) (omega arith) (rule_or book.default (found book text at) book.clauses) (skip book.ignores_case text (at + w)) refl)
+    argument-ends book.ignores_case text at (at + w) (index_or (found book text at)) (omega arith) (omega arith) (rule_or book.default (found book text at) book.clauses) (skip book.ignores_case text (at + w)) refl)
 
 -- what follows a clause does not begin before its end, and is within n bytes
-abbrev pub Follows : ℕ → ℕ → Separated → Type 0
-Follows at n (then comma p) = (at ≤ p) × (p ≤ n)
-Follows at n (open_comment p) = Unit {0}
+abbrev pub Follows : ℕ → ℕ → Result Separation Refusal → Type 0
+Follows at n (Ok s) = (at ≤ s.next) × (s.next ≤ n)
+Follows at n (Err r) = Unit {0}
 
-module _ (book : Book) (text : List ℕ) (at : ℕ) where
-  follows-skip : (comma : Bool) (from : ℕ) (s : Skipped) → at ≤ from → from ≤ length text → skip book.ignores_case text from ≡ s → Follows at (length text) (after_comma comma s)
-  follows-skip comma from (Past p) l h e = let b = skip-bounds book.ignores_case text from p e in (omega arith, omega arith)
-  follows-skip comma from (OpenAt p) l h e = tt
+module _ (f : Bool) (text : List ℕ) (at : ℕ) where
+  follows-skip : (comma : Bool) (from : ℕ) (s : Result ℕ Refusal) → at ≤ from → from ≤ length text → skip f text from ≡ s → Follows at (length text) (after_comma comma s)
+  follows-skip comma from (Ok p) l h e = let b = skip-bounds f text from p e in (omega arith, omega arith)
+  follows-skip comma from (Err r) l h e = tt
 
-  follows-cond : (t : Bool) (x y : Separated) → (t ≡ true → Follows at (length text) x) → (t ≡ false → Follows at (length text) y) → Follows at (length text) (cond t x y)
+  follows-cond : (t : Bool) (x y : Result Separation Refusal) → (t ≡ true → Follows at (length text) x) → (t ≡ false → Follows at (length text) y) → Follows at (length text) (cond t x y)
   follows-cond true x y h k = h refl
   follows-cond false x y h k = k refl
 
-  comma-follows : (s : Skipped) → at ≤ length text → skip book.ignores_case text at ≡ s → Follows at (length text) (at_comma book text s)
-  comma-follows (Past p) h e =
-      let b = skip-bounds book.ignores_case text at p e in
+  comma-follows : (s : Result ℕ Refusal) → at ≤ length text → skip f text at ≡ s → Follows at (length text) (at_comma f text s)
+  comma-follows (Ok p) h e =
+      let b = skip-bounds f text at p e in
       follows-cond (starts 44 (drop p text)) _ _
-      (λ t. let inside = starts-inside 43 p text t in follows-skip true (suc p) (skip book.ignores_case text (suc p)) (omega arith) (omega arith) refl)
-      (λ t. follows-skip false p (skip book.ignores_case text p) (omega arith) (omega arith) refl)
-  comma-follows (OpenAt p) h e = tt
+      (λ t. let inside = starts-inside 43 p text t in follows-skip true (suc p) (skip f text (suc p)) (omega arith) (omega arith) refl)
+      (λ t. follows-skip false p (skip f text p) (omega arith) (omega arith) refl)
+  comma-follows (Err r) h e = tt
 
-  pub separator-follows : at ≤ length text → Follows at (length text) (separated book text at)
-  separator-follows h = comma-follows (skip book.ignores_case text at) h refl
+  pub separator-follows : at ≤ length text → Follows at (length text) (separated f text at)
+  separator-follows h = comma-follows (skip f text at) h refl

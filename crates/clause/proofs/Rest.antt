@@ -7,10 +7,11 @@ use mathlib.Core.List.{List, [], ◌∷◌}
 use native.Mathlib.Omega.{arith}
 use lib.ListN.{length, drop, length-drop, get_or-append}
 use Rattle.ascii.specs.Text.{padded}
+use Rattle.std.specs.Prelude.{Result, Ok, Err}
+use Rattle.refusal.specs.declared.Refusal.{Refusal}
+use Rattle.refusal.specs.Table.{number_of}
 use Rattle.refusal.specs.Answer.{Answer, given, refused, and_then, unless_fault, admitted, slots}
 use Rattle.refusal.proofs.Answers.{never, Sure, sure-if, sure-fault, sure-admitted}
-use Rattle.lexer.specs.declared.Skipped.{Skipped}
-use Rattle.lexer.specs.declared.Skipped.TheVariants.{Past, OpenAt}
 use Rattle.lexer.specs.Trivia.{skip}
 use Rattle.lexer.proofs.Bounds.{skip-bounds}
 use Rattle.bookform.specs.declared.ClauseRule.TheVariants.{Unsupported}
@@ -53,8 +54,8 @@ module _ (book : Book) (text : List ℕ) (strict : book.default ≡ Unsupported)
   sequence-whole room comma (suc k) at (x ∷ xs) s n h = sequence-whole room comma k (suc at) xs s (omega arith) h
   sequence-whole room comma zero at (x ∷ xs) s n h =
       let t = turn-of book text room comma at x xs s strict h in
-      let w = sequence-whole (room - 1) t.after (t.next - suc at) (suc at) xs t.later (omega arith) t.goes_on in
-      let (i, f, e) = clause-found book text at t.read t.end strict t.reads in
+      let w = sequence-whole (room - 1) t.after.comma (t.after.next - suc at) (suc at) xs t.later (omega arith) t.goes_on in
+      let (i, f, e) = clause-found book text at t.read strict t.reads in
       let b = entry_from-below _ 0 i _ book.clauses f in
       rw t.gives (record { rest = w.rest; entries = names_more _ _ _ t.later.clauses (omega arith) w.entries })
 
@@ -62,11 +63,11 @@ module _ (book : Book) (text : List ℕ) (strict : book.default ≡ Unsupported)
   unfolding sequence_at
   sequence_at-whole room at n = sure-if (IsWhole book text) (sequence_at book text room at) (λ s h. go s h (skip book.ignores_case text at) refl)
     where
-      go : (s : Sequence) → sequence_at book text room at ≡ given s → (p : Skipped) → skip book.ignores_case text at ≡ p → IsWhole book text s
-      go s h (Past p) e =
+      go : (s : Sequence) → sequence_at book text room at ≡ given s → (p : Result ℕ Refusal) → skip book.ignores_case text at ≡ p → IsWhole book text s
+      go s h (Ok p) e =
           let b = skip-bounds book.ignores_case text at p e in
           sequence-whole room false zero p (drop p text) s (simp length-drop (omega arith)) (rw (sequence_at, e) at h)
-      go s h (OpenAt p) e = never _ 8 p s (rw (sequence_at, e) at h)
+      go s h (Err r) e = never _ (number_of r.reason) r.place s (rw (sequence_at, e) at h)
 
 -- the same of the call
 call-whole : (book : Book) (text : List ℕ) (size : ℕ) (end : SequenceEnd) (x : Answer Sequence) → Sure (IsWhole book text) x

@@ -3,70 +3,33 @@
 use Prim.Native.Nat.{ℕ, zero, suc, ◌+◌, ◌-◌, ◌≤◌, ◌<◌}
 use mathlib.Core.Bool.{Bool, true, false, cond, ◌&&◌}
 use mathlib.Core.Path.{◌≡◌, refl, sym, ap, subst, ◌∙◌}
-use mathlib.Core.List.{List, [], ◌∷◌, ◌++◌, append-nil}
+use mathlib.Core.List.{List, [], ◌∷◌}
 use native.Mathlib.Omega.{arith}
-use lib.ListN.{length, take, drop, replicate, length-drop}
-use lib.Seq.{drop-drop, take_all}
+use lib.ListN.{length, drop, replicate, length-drop}
+use lib.Seq.{drop-drop}
 use lib.Dec.{eqb}
 use borrow.Author.Tests.{eqb-true, eqb-false}
-use Rattle.ascii.specs.Text.{starts, padded}
+use Rattle.std.specs.Prelude.{Result, Ok, Err}
+use Rattle.ascii.specs.Text.{padded}
 use Rattle.refusal.specs.declared.Refusal.{Refusal}
 use Rattle.refusal.specs.Table.{number_of}
-use Rattle.refusal.specs.Answer.{Answer, given, refused, refused_by}
-use Rattle.code.specs.declared.Match.{Match}
-use Rattle.code.specs.declared.Match.TheVariants.{ClosedAt, Unmatched, DeepAt}
-use Rattle.code.specs.Matching.{matching}
-use Rattle.lexer.specs.declared.Skipped.{Skipped}
-use Rattle.lexer.specs.declared.Skipped.TheVariants.{Past, OpenAt}
-use Rattle.lexer.specs.Trivia.{skip}
-use Rattle.bookform.specs.declared.ClauseRule.{ClauseRule}
-use Rattle.bookform.specs.declared.ClauseRule.TheVariants.{Bare, Parenthesized, Flexible, Unsupported}
+use Rattle.refusal.specs.Answer.{Answer, given, refused, refused_by, told}
 use Rattle.rulebook.specs.Book.{Book, book_of}
-use Rattle.rulebook.specs.Lookup.{index_or, rule_or}
 use Rattle.clause.specs.declared.ClauseRecord.{ClauseRecord}
 use Rattle.clause.specs.declared.Progress.{Progress}
 use Rattle.clause.specs.declared.Progress.TheVariants.{Going, Ended, Refused}
 use Rattle.clause.specs.declared.SequenceState.{SequenceState}
-use Rattle.clause.specs.declared.SequenceAnswer.{SequenceAnswer}
-use Rattle.clause.specs.Clause.{Read, clause, failed, deep, style, closing, argument, word_length, found, clause_at, zero_record}
-use Rattle.clause.specs.Sequence.{Sequence, Separated, then, open_comment, separated, consed, flagged, is_unsupported, sequence_from}
-use Rattle.clause.specs.Calls.{SequenceCall, sequence_gives}
-use Rattle.clause.specs.Steps.{Started, Ready, WhenGoing, Proper, reason_of, still, taken, onward, next_state, state_at, records_from, answer_of, kept_of, read_from, read_on, settled}
+use Rattle.clause.specs.declared.SequenceEnd.{SequenceEnd}
+use Rattle.clause.specs.declared.ClauseRead.{ClauseRead}
+use Rattle.clause.specs.declared.ClauseError.TheVariants.{Failed, Deep}
+use Rattle.clause.specs.declared.Separation.{Separation}
+use Rattle.clause.specs.Clause.{Read, clause_at, zero_record}
+use Rattle.clause.specs.Sequence.{Sequence, separated, consed, flagged, is_unsupported, sequence_from}
+use Rattle.clause.specs.Calls.{SequenceCall}
+use Rattle.clause.specs.Steps.{Started, Ready, WhenGoing, Proper, still, taken, onward, next_state, state_at, records_from, answer_of, read_from, read_on, settled}
 use Rattle.clause.proofs.Extents.{clause-ends, separator-follows}
 use Rattle.clause.proofs.Properness.{proper-next}
 use Rattle.clause.proofs.Filling.{length-records}
-
--- a clause fails by a number of the table
-abbrev Listed : Read → Type 0
-Listed (clause r end) = Unit {0}
-Listed (failed n p) = number_of (reason_of n) ≡ n
-Listed (deep p) = Unit {0}
-
-listed-cond : (t : Bool) (x y : Read) → Listed x → Listed y → Listed (cond t x y)
-listed-cond true x y h k = h
-listed-cond false x y h k = k
-
-module _ (book : Book) (text : List ℕ) (start end i : ℕ) where
-  closing-listed : (p : ℕ) (m : Match) → Listed (closing book text start end i p m)
-  closing-listed p (ClosedAt q) = tt
-  closing-listed p Unmatched = refl
-  closing-listed p (DeepAt q) = tt
-
-  argument_listed : (rule : ClauseRule) (s : Skipped) → Listed (argument book text start end i rule s)
-  argument_listed Bare s = tt
-  argument_listed Parenthesized (Past p) = listed-cond (starts 40 (drop p text)) _ (failed 11 p) (closing-listed p (matching (style book text) (suc p) (drop (suc p) text))) refl
-  argument_listed Parenthesized (OpenAt p) = refl
-  argument_listed Flexible (Past p) =
-      listed-cond (starts 40 (drop p text)) _ (argument book text start end i Bare (Past p)) (closing-listed p (matching (style book text) (suc p) (drop (suc p) text))) tt
-  argument_listed Flexible (OpenAt p) = refl
-  argument_listed Unsupported s = refl
-
-clause-listed : (book : Book) (text : List ℕ) (at n p : ℕ) → clause_at book text at ≡ failed n p → number_of (reason_of n) ≡ n
-unfolding clause_at
-clause-listed book text at n p e =
-    let w = word_length book text at in
-    rw e at (listed-cond (eqb w 0) (failed 10 at) (argument book text at (at + w) (index_or (found book text at)) (rule_or book.default (found book text at) book.clauses) (skip book.ignores_case text (at + w)))
-    refl (argument_listed book text at (at + w) (index_or (found book text at)) (rule_or book.default (found book text at) book.clauses) (skip book.ignores_case text (at + w))))
 
 -- bytes that are passed over
 pass : (book : Book) (t : List ℕ) (room : ℕ) (comma : Bool) (k at : ℕ) (xs : List ℕ) → k ≤ length xs
@@ -106,27 +69,27 @@ module _ (bk t : List ℕ) (s : SequenceState) (ready : Ready bk t s) where
       Goal : Type 0
       Goal = Stepped bk t Going (sequence_from (book_of bk) t s.left s.comma zero s.at (x ∷ xs)) s (taken (book_of bk) t s (clause_at (book_of bk) t s.at))
 
-      go-default : (n p : ℕ) (b : Bool) → clause_at (book_of bk) t s.at ≡ failed n p → is_unsupported (book_of bk).default ≡ b → Goal
-      go-default n p true e f = rw (sequence_from, e, f) (shut _ refl (ap (λ (k : ℕ). refused k p) (sym (clause-listed (book_of bk) t s.at n p e))))
-      go-default n p false e f = rw (sequence_from, e, f) (over refl refl refl refl)
+      go-default : (r : Refusal) (b : Bool) → clause_at (book_of bk) t s.at ≡ Err (Failed r) → is_unsupported (book_of bk).default ≡ b → Goal
+      go-default r true e f = rw (sequence_from, e, f) (shut r refl refl)
+      go-default r false e f = rw (sequence_from, e, f) (over refl refl refl refl)
 
-      go-next : (r : ClauseRecord) (end : ℕ) (n : Separated) → clause_at (book_of bk) t s.at ≡ clause r end → eqb s.left 0 ≡ false → separated (book_of bk) t end ≡ n → Goal
-      go-next r end (then after next) e f g =
+      go-next : (c : ClauseRead) (n : Result Separation Refusal) → clause_at (book_of bk) t s.at ≡ Ok c → eqb s.left 0 ≡ false → separated (book_of bk).ignores_case t c.end ≡ n → Goal
+      go-next c (Ok n) e f g =
           let b = rw e at (clause-ends (book_of bk) t s.at ready.inside) in
-          let h = rw g at (separator-follows (book_of bk) t end b.1) in
+          let h = rw g at (separator-follows (book_of bk).ignores_case t c.end b.1) in
           let l : s.left ≡ suc (s.left - 1) = omega (arith, eqb-false s.left 0 f) in
           rw (sequence_from, e, f, g)
-          (went refl refl l refl (ap (consed (flagged r s.comma (after && eqb next (length t)))) (pass_on (book_of bk) t (s.left - 1) after s.at next x xs d (omega arith) h.1)))
-      go-next r end (open_comment p) e f g = rw (sequence_from, e, f, g) (shut _ refl refl)
+          (went refl refl l refl (ap (consed (flagged c.clause s.comma (n.comma && eqb n.next (length t)))) (pass_on (book_of bk) t (s.left - 1) n.comma s.at n.next x xs d (omega arith) h.1)))
+      go-next c (Err r) e f g = rw (sequence_from, e, f, g) (shut r refl refl)
 
-      go-room : (r : ClauseRecord) (end : ℕ) (b : Bool) → clause_at (book_of bk) t s.at ≡ clause r end → eqb s.left 0 ≡ b → Goal
-      go-room r end true e f = rw (sequence_from, e, f) (shut _ refl refl)
-      go-room r end false e f = go-next r end (separated (book_of bk) t end) e f refl
+      go-room : (c : ClauseRead) (b : Bool) → clause_at (book_of bk) t s.at ≡ Ok c → eqb s.left 0 ≡ b → Goal
+      go-room c true e f = rw (sequence_from, e, f) (shut _ refl refl)
+      go-room c false e f = go-next c (separated (book_of bk).ignores_case t c.end) e f refl
 
       go-read : (c : Read) → clause_at (book_of bk) t s.at ≡ c → Goal
-      go-read (clause r end) e = go-room r end (eqb s.left 0) e refl
-      go-read (failed n p) e = go-default n p (is_unsupported (book_of bk).default) e refl
-      go-read (deep p) e = rw (sequence_from, e) (shut _ refl refl)
+      go-read (Ok c) e = go-room c (eqb s.left 0) e refl
+      go-read (Err (Failed r)) e = go-default r (is_unsupported (book_of bk).default) e refl
+      go-read (Err (Deep p)) e = rw (sequence_from, e) (shut _ refl refl)
 
   step-at : (b : Bool) (xs : List ℕ) → eqb s.at (length t) ≡ b → drop s.at t ≡ xs
       → Stepped bk t Going (sequence_from (book_of bk) t s.left s.comma zero s.at xs) s (cond b (still s Ended) (taken (book_of bk) t s (clause_at (book_of bk) t s.at)))
@@ -147,8 +110,8 @@ stepped bk t s h = stepped_by bk t s s.progress h
 
 -- The last state and the records of n slots are those of what was read: c clauses were counted before.
 abbrev Fulfils : SequenceState → List ClauseRecord → ℕ → ℕ → Answer Sequence → Type 0
-Fulfils last rs n c (given q) = (answer_of last ≡ SequenceAnswer.Read (record { count = c + length q.clauses; rest = q.rest })) × (rs ≡ padded zero_record n q.clauses)
-Fulfils last rs n c (refused m p) = (r : Refusal) × (answer_of last ≡ SequenceAnswer.Refused r) × (m ≡ number_of r.reason) × (p ≡ r.place)
+Fulfils last rs n c (given q) = (answer_of last ≡ Ok (record { count = c + length q.clauses; rest = q.rest })) × (rs ≡ padded zero_record n q.clauses)
+Fulfils last rs n c (refused m p) = (r : Refusal) × (answer_of last ≡ Err r) × (m ≡ number_of r.reason) × (p ≡ r.place)
 
 grow : (last : SequenceState) (rs : List ClauseRecord) (n d c : ℕ) (r : ClauseRecord) (x : Answer Sequence) → d ≡ c + 1 → Fulfils last rs n d x → Fulfils last (r ∷ rs) (suc n) c (consed r x)
 grow last rs n d c r (given q) e h =
@@ -202,27 +165,27 @@ when-going Going P h = h
 when-going Ended P h = tt
 when-going (Refused r) P h = tt
 
-settle : (last : SequenceState) (rs : List ClauseRecord) (n : ℕ) (x : Answer Sequence) → length rs ≡ n → Fulfils last rs n 0 x → (r : SequenceAnswer) (us : List ClauseRecord) (k : ℕ)
-    → r ≡ answer_of last → k ≡ kept_of n r → us ≡ take k rs ++ replicate (length rs - k) zero_record
-    → ◌≡◌ {A = SequenceCall} (record { answer = sequence_gives r; records = us }) (settled n x)
-settle last rs n (given q) l h r us k e f g =
+-- what the slots hold in the end: the records, or nothing after a refusal
+abbrev pub left_by : Result SequenceEnd Refusal → List ClauseRecord → List ClauseRecord
+left_by (Ok e) rs = rs
+left_by (Err r) rs = replicate (length rs) zero_record
+
+settle : (last : SequenceState) (rs : List ClauseRecord) (n : ℕ) (x : Answer Sequence) → length rs ≡ n → Fulfils last rs n 0 x → (r : Result SequenceEnd Refusal) (us : List ClauseRecord)
+    → r ≡ answer_of last → us ≡ left_by r rs → ◌≡◌ {A = SequenceCall} (record { answer = told r; records = us }) (settled n x)
+settle last rs n (given q) l h r us e g =
     let i : 0 + length q.clauses ≡ length q.clauses = omega arith in
-    let o : r ≡ SequenceAnswer.Read (record { count = length q.clauses; rest = q.rest }) = e ∙ rw i at h.0 in
-    let m : k ≡ n = f ∙ ap (kept_of n) o in
-    let over : length rs ≤ n = omega arith in
-    let z : length rs - n ≡ 0 = omega arith in
-    let u : us ≡ padded zero_record n q.clauses = g ∙ rw (m, z, take_all, append-nil) h.1 in
+    let o : r ≡ Ok (record { count = length q.clauses; rest = q.rest }) = e ∙ rw i at h.0 in
+    let u : us ≡ padded zero_record n q.clauses = rw o at g ∙ h.1 in
     rw (o, u) refl
-settle last rs n (refused m p) l h r us k e f g =
-    let o : r ≡ SequenceAnswer.Refused h.0 = e ∙ h.1 in
-    let j : k ≡ 0 = f ∙ ap (kept_of n) o in
-    let u : us ≡ padded zero_record n [] = g ∙ rw (j, l) refl in
+settle last rs n (refused m p) l h r us e g =
+    let o : r ≡ Err h.0 = e ∙ h.1 in
+    let u : us ≡ padded zero_record n [] = rw (o, l) at g in
     rw (o, u, h.2, h.3) refl
 
-pub settles : (bk t : List ℕ) (s : SequenceState) (n : ℕ) → Started bk t n s → (r : SequenceAnswer) (zs us : List ClauseRecord) (k : ℕ)
-    → r ≡ answer_of (next_state bk t (state_at bk t s n)) → zs ≡ records_from bk t s 0 n → k ≡ kept_of n r → us ≡ take k zs ++ replicate (length zs - k) zero_record
-    → ◌≡◌ {A = SequenceCall} (record { answer = sequence_gives r; records = us }) (settled n (read_on bk t s))
-settles bk t s n started r zs us k e₁ e₂ e₃ e₄ =
+pub settles : (bk t : List ℕ) (s : SequenceState) (n : ℕ) → Started bk t n s → (r : Result SequenceEnd Refusal) (rs us : List ClauseRecord)
+    → r ≡ answer_of (next_state bk t (state_at bk t s n)) → rs ≡ records_from bk t s 0 n → us ≡ left_by r rs
+    → ◌≡◌ {A = SequenceCall} (record { answer = told r; records = us }) (settled n (read_on bk t s))
+settles bk t s n started r rs us e₁ e₂ e₃ =
     settle (next_state bk t (state_at bk t s n)) (records_from bk t s 0 n) n (read_on bk t s) (length-records bk t s 0 n)
     (subst (λ (c : ℕ). Fulfils (next_state bk t (state_at bk t s n)) (records_from bk t s 0 n) n c (read_on bk t s)) started.none_yet
-    (fulfilled bk t n s started.proper (when-going s.progress (s.left ≤ n) started.room))) r us k e₁ e₃ (rw e₂ at e₄)
+    (fulfilled bk t n s started.proper (when-going s.progress (s.left ≤ n) started.room))) r us e₁ (rw e₂ at e₃)

@@ -5,7 +5,7 @@ use Rattle.refusal.specs.declared.Refusal.{Refusal}
 use Rattle.refusal.specs.Answer.{Answer, given, refused_by, and_then, unless_fault, admitted, slots, max_length}
 use Rattle.refusal.specs.Verdict.{refusal_at}
 use Rattle.lexer.specs.Trivia.{skip}
-use Rattle.rulebook.specs.Book.{Book, book_of, header_of}
+use Rattle.rulebook.specs.Book.{Book, book_of}
 use Rattle.rulebook.specs.Check.{book_fault}
 use Rattle.clause.specs.declared.ClauseRecord.{ClauseRecord}
 use Rattle.clause.specs.declared.ClauseRead.{ClauseRead}
@@ -82,7 +82,7 @@ pub record Ready (book text : List ℕ) (s : SequenceState) : Type 0 where
   pub short : length text ≤ max_length
   pub inside : s.at ≤ length text
   pub fewer : s.count ≤ s.at
-  pub clean : Clean (header_of book).ignores_case text s.clean
+  pub clean : Clean (book_of book).ignores_case text s.clean
 
 abbrev pub WhenGoing : Progress → Type 0 → Type 0
 WhenGoing Going P = P
@@ -108,8 +108,8 @@ begun_at text left (Err r) = begun (Refused r) r.place left (length text)
 
 -- the start at a place of a text, into so many slots, under a valid book
 unfoldable pub start_at : List ℕ → List ℕ → ℕ → ℕ → SequenceState
-unfolding header_of skip
-start_at book text left at = begun_at text left (skip (header_of book).ignores_case text at)
+unfolding book_of skip
+start_at book text left at = begun_at text left (skip (book_of book).ignores_case text at)
 
 abbrev pub answer_by : SequenceState → Progress → Result SequenceEnd Refusal
 answer_by s Going = Ok (record { count = s.count; rest = s.at })

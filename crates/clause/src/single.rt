@@ -3,7 +3,7 @@ ghost use Rattle.std.specs.Prelude.{◌≡◌, Option, Some, cond, suc, ◌≤�
 ghost use Rattle.refusal.specs.Answer.{max_length};
 ghost use Rattle.code.specs.Matching.{matching};
 ghost use Rattle.lexer.specs.Trivia.{skip};
-ghost use Rattle.rulebook.specs.Book.{book_of, header_of};
+ghost use Rattle.rulebook.specs.Book.{book_of};
 ghost use Rattle.clause.specs.Clause.{style, word_record, bare_clause, closing, argument as argument_of, clause_at, WordIn, Clean};
 ghost use Rattle.clause.specs.Sequence.{separated};
 
@@ -136,7 +136,7 @@ pub fn read_clause(
 ) -> Result<ClauseRead, ClauseError>
     requires short { length text.now ≤ max_length }
     requires inside { at ≤ length text.now }
-    requires clean { Clean (header_of book.now.bytes.now).ignores_case text.now clean }
+    requires clean { Clean (book_of book.now.bytes.now).ignores_case text.now clean }
     ensures { result ≡ clause_at (book_of book.now.bytes.now) text.now at }
 {
     let end = ascii::run_end::<Word>(text, at);

@@ -1,7 +1,7 @@
 // The sequence of clauses as steps over a state by value.
 ghost use Rattle.std.specs.Prelude.{◌≡◌, cond, ◌≤◌, ◌<◌, length, eqb};
 ghost use Rattle.refusal.specs.Answer.{max_length};
-ghost use Rattle.rulebook.specs.Book.{book_of, header_of};
+ghost use Rattle.rulebook.specs.Book.{book_of};
 ghost use Rattle.clause.specs.Sequence.{separated, is_unsupported};
 ghost use Rattle.clause.specs.Steps.{Proper, Ready, begun as begun_of, start_at as start_at_of, still as still_of, stopped as stopped_of, gone as gone_of, behind as behind_of, onward as onward_of, next_state, is_going, answer_of};
 ghost use Rattle.refusal.specs.Verdict.{refusal_at};
