@@ -14,6 +14,7 @@ ghost use Rattle.clause.specs.Steps.{sequence_into};
 
 use refusal::Refusal;
 use rulebook::CheckedBook;
+use rulebook::index::Index;
 
 // What is recorded of a clause: offsets of the joined text, its entry in the book, and its commas.
 // A zeroed record is bare with every number 0.
@@ -109,7 +110,7 @@ pub struct SequenceArray<const N: usize> {
 fn admitted<'a>(
     book: &'a [u8],
     text: &[u8],
-    index: &'a mut [u32; 1024],
+    index: &'a mut Index,
 ) -> Result<CheckedBook<'a>, Refusal>
     requires { Fresh index.old }
     ensures { Admits book.now text.now result }
@@ -129,7 +130,7 @@ fn parse_into(
     ensures { record { answer = told result; records = records.new }
         ≡ sequence_into book.now text.now slots (length records.old) }
 {
-    let mut index = [0u32; 1024];
+    let mut index = Index::new();
     match admitted(book, text, &mut index) {
         Ok(book) => {
             let start = steps::start_at(&book, text, 0, slots);

@@ -50,9 +50,9 @@ fn style_of(fortran: bool) -> CommentStyle
 
 impl ClauseWord<'_> {
     // Its record, with the range of its content if it has an argument.
-    fn record(self, content: Option<Range>) -> ClauseRecord
+    fn record(&self, content: Option<Range>) -> ClauseRecord
         requires { IfSome content (λ r. (r.start ≤ max_length) × (r.end ≤ max_length)) }
-        ensures { result ≡ word_record self.start self.end self.entry content }
+        ensures { result ≡ word_record self.now.start self.now.end self.now.entry content }
     {
         let parenthesized = content.is_some();
         let content = content.unwrap_or(Range { start: 0, end: 0 });
@@ -69,8 +69,8 @@ impl ClauseWord<'_> {
     }
 
     // The word alone.
-    fn bare(self) -> Result<ClauseRead, ClauseError>
-        ensures { result ≡ bare_clause self.start self.end self.entry }
+    fn bare(&self) -> Result<ClauseRead, ClauseError>
+        ensures { result ≡ bare_clause self.now.start self.now.end self.now.entry }
     {
         Ok(ClauseRead {
             clause: self.record(None),
@@ -79,12 +79,12 @@ impl ClauseWord<'_> {
     }
 
     // The word with an argument, whose parenthesis opens at a place.
-    fn closed(self, open: usize) -> Result<ClauseRead, ClauseError>
-        requires { (self.end ≤ «open») × («open» < length self.text.now) }
-        ensures { result ≡ closing self.fortran self.text.now self.start self.end self.entry «open»
-            (matching (style self.fortran) (suc «open») (drop (suc «open») self.text.now)) }
+    fn closed(&self, at: usize) -> Result<ClauseRead, ClauseError>
+        requires { at < length self.now.text.now }
+        ensures { result ≡ closing self.now.fortran self.now.text.now self.now.start self.now.end self.now.entry at
+            (matching (style self.now.fortran) (suc at) (drop (suc at) self.now.text.now)) }
     {
-        let inner = open + 1;
+        let inner = at + 1;
         match code::walk::match_from(self.text, inner, style_of(self.fortran), self.clean) {
             Ok(close) => {
                 let content = ascii::trim_between(self.text, inner, close);
@@ -93,15 +93,15 @@ impl ClauseWord<'_> {
                     end: close + 1,
                 })
             }
-            Err(NoMatch::Unmatched) => Err(ClauseError::Failed(Reason::Unmatched.at(open))),
+            Err(NoMatch::Unmatched) => Err(ClauseError::Failed(Reason::Unmatched.at(at))),
             Err(NoMatch::DeepAt(place)) => Err(ClauseError::Deep(place)),
         }
     }
 
     // The word with the argument behind it, which it needs or may have.
-    fn with_argument(self, needed: bool) -> Result<ClauseRead, ClauseError>
-        ensures { result ≡ argument_of self.fortran self.text.now self.start self.end self.entry
-            (cond needed ClauseRule.Parenthesized ClauseRule.Flexible) (skip self.fortran self.text.now self.end) }
+    fn with_argument(&self, needed: bool) -> Result<ClauseRead, ClauseError>
+        ensures { result ≡ argument_of self.now.fortran self.now.text.now self.now.start self.now.end self.now.entry
+            (cond needed ClauseRule.Parenthesized ClauseRule.Flexible) (skip self.now.fortran self.now.text.now self.now.end) }
     {
         let place = lexer::trivia::skip(self.text, self.end, self.fortran)?;
         if ascii::byte_at(self.text, place) == b'(' {
@@ -114,9 +114,9 @@ impl ClauseWord<'_> {
     }
 
     // The clause of the word, by its rule.
-    fn argument(self, rule: ClauseRule) -> Result<ClauseRead, ClauseError>
-        ensures { result ≡ argument_of self.fortran self.text.now self.start self.end self.entry
-            rule (skip self.fortran self.text.now self.end) }
+    fn argument(&self, rule: ClauseRule) -> Result<ClauseRead, ClauseError>
+        ensures { result ≡ argument_of self.now.fortran self.now.text.now self.now.start self.now.end self.now.entry
+            rule (skip self.now.fortran self.now.text.now self.now.end) }
     {
         match rule {
             ClauseRule::Bare => self.bare(),
