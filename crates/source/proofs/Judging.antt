@@ -2,7 +2,7 @@
 -- Assumes nothing.
 use mathlib.Core.Path.{◌≡◌, refl, sym, ap, ◌∙◌}
 use mathlib.Core.Bool.{Bool, true, false, cond}
-use Rattle.std.specs.Prelude.{Option, Some, None}
+use Rattle.std.specs.Prelude.{Option, Some, None, Ok, Err}
 use mathlib.Core.List.{List, []}
 use Prim.Native.Nat.{ℕ, suc, ◌≤◌, ◌<◌}
 use native.Mathlib.Omega.{arith}
@@ -13,37 +13,35 @@ use Rattle.ascii.specs.Text.{padded}
 use Rattle.ascii.proofs.Flags.{or-none}
 use Rattle.refusal.specs.declared.Reason.TheVariants.{InvalidLine}
 use Rattle.refusal.specs.declared.Refusal.{Refusal}
-use Rattle.refusal.specs.declared.Verdict.{Verdict}
-use Rattle.refusal.specs.declared.Verdict.TheVariants.{Fine, Bad}
 use Rattle.refusal.specs.Answer.{Answer, given, refused, refused_by, unless_fault, admitted, max_length}
-use Rattle.refusal.specs.Verdict.{fault_by, text_verdict, or_refused}
+use Rattle.refusal.specs.Verdict.{Verdict, fine, fault_by, and_check, text_verdict, or_refused}
 use Rattle.refusal.proofs.Admission.{admits, admits-length}
 use Rattle.lexer.specs.declared.Language.{Language}
 use Rattle.lexer.specs.declared.Prefix.{Prefix}
 use Rattle.validation.specs.Validation.{fault}
 use Rattle.source.specs.Joining.{joined_text, joined_map, collapsed}
 use Rattle.source.specs.Calls.{is_short, join_answer, join_call, copy_call}
-use Rattle.source.specs.Verdicts.{and_check, short_buffer, join_verdict, copy_verdict}
+use Rattle.source.specs.Verdicts.{short_buffer, join_verdict, copy_verdict}
 
 -- two checks, one after the other
 then-refused : {A : Type 0} (v w : Verdict) (a : Answer A) → or_refused (and_check v w) a ≡ or_refused v (or_refused w a)
-then-refused Fine w a = refl
-then-refused (Bad r) w a = refl
+then-refused (Ok u) w a = refl
+then-refused (Err r) w a = refl
 
-then-first : (v w : Verdict) → and_check v w ≡ Fine → v ≡ Fine
-then-first Fine w e = refl
-then-first (Bad r) w e = e
+then-first : (v w : Verdict) → and_check v w ≡ fine → v ≡ fine
+then-first (Ok u) w e = refl
+then-first (Err r) w e = e
 
-then-second : (v w : Verdict) → and_check v w ≡ Fine → w ≡ Fine
-then-second Fine w e = e
-then-second (Bad r) w e = let z : ◌≡◌ {A = ℕ} 0 1 = cc in absurd (omega arith)
+then-second : (v w : Verdict) → and_check v w ≡ fine → w ≡ fine
+then-second (Ok u) w e = e
+then-second (Err r) w e = let z : ◌≡◌ {A = ℕ} 0 1 = cc in absurd (omega arith)
 
 room-refused : {A : Type 0} (b : Bool) (o : Option ℕ) (a : Answer A) → or_refused (cond b short_buffer (fault_by InvalidLine o)) a ≡ cond b (refused 3 0) (unless_fault 6 o a)
 room-refused true o a = refl
 room-refused false None a = refl
 room-refused false (Some p) a = refl
 
-room-fine : (b : Bool) (v : Verdict) → cond b short_buffer v ≡ Fine → b ≡ false
+room-fine : (b : Bool) (v : Verdict) → cond b short_buffer v ≡ fine → b ≡ false
 room-fine false v e = refl
 room-fine true v e = let z : ◌≡◌ {A = ℕ} 0 1 = cc in absurd (omega arith)
 
@@ -55,18 +53,18 @@ module _ (l : Language) (p : Prefix) (line : List ℕ) (text_slots map_slots : �
       let w = cond (is_short line text_slots map_slots) short_buffer (fault_by InvalidLine (fault l p line)) in
       sym (then-refused (text_verdict line) w a ∙ admits line (or_refused w a) ∙ ap (admitted line) (room-refused (is_short line text_slots map_slots) (fault l p line) a))
 
-  pub join-bad : (r : Refusal) → join_verdict l p line text_slots map_slots ≡ Bad r
+  pub join-refused : (r : Refusal) → join_verdict l p line text_slots map_slots ≡ Err r
       → join_call l p line text_slots map_slots ≡ record { answer = refused_by r; text = padded 0 text_slots []; map = padded 0 map_slots [] }
   unfolding join_call
-  join-bad r e = rw (join-answer, e)
+  join-refused r e = rw (join-answer, e)
 
-  pub join-fine : join_verdict l p line text_slots map_slots ≡ Fine
+  pub join-fine : join_verdict l p line text_slots map_slots ≡ fine
       → join_call l p line text_slots map_slots
       ≡ record { answer = given (length (joined_text l line)); text = padded 0 text_slots (joined_text l line); map = padded 0 map_slots (joined_map l line) }
   unfolding join_call
   join-fine e = rw (join-answer, e)
 
-  pub join-fits : join_verdict l p line text_slots map_slots ≡ Fine → (length line ≤ max_length) × (length line ≤ text_slots) × (length line < map_slots)
+  pub join-fits : join_verdict l p line text_slots map_slots ≡ fine → (length line ≤ max_length) × (length line ≤ text_slots) × (length line < map_slots)
   unfolding join_verdict
   join-fits e =
       let w = cond (is_short line text_slots map_slots) short_buffer (fault_by InvalidLine (fault l p line)) in
@@ -79,19 +77,19 @@ module _ (content : List ℕ) (size : ℕ) where
   unfolding copy_verdict
   copy-answer =
       let a : Answer ℕ = given (length (collapsed content)) in
-      let w = cond (ltb size (length content)) short_buffer Fine in
+      let w = cond (ltb size (length content)) short_buffer fine in
       sym (then-refused (text_verdict content) w a ∙ admits content (or_refused w a) ∙ ap (admitted content) (room-refused (ltb size (length content)) None a))
 
-  pub copy-bad : (r : Refusal) → copy_verdict content size ≡ Bad r → copy_call content size ≡ record { answer = refused_by r; copy = padded 0 size [] }
+  pub copy-refused : (r : Refusal) → copy_verdict content size ≡ Err r → copy_call content size ≡ record { answer = refused_by r; copy = padded 0 size [] }
   unfolding copy_call
-  copy-bad r e = rw (copy-answer, e)
+  copy-refused r e = rw (copy-answer, e)
 
-  pub copy-fine : copy_verdict content size ≡ Fine → copy_call content size ≡ record { answer = given (length (collapsed content)); copy = padded 0 size (collapsed content) }
+  pub copy-fine : copy_verdict content size ≡ fine → copy_call content size ≡ record { answer = given (length (collapsed content)); copy = padded 0 size (collapsed content) }
   unfolding copy_call
   copy-fine e = rw (copy-answer, e)
 
-  pub copy-fits : copy_verdict content size ≡ Fine → length content ≤ size
+  pub copy-fits : copy_verdict content size ≡ fine → length content ≤ size
   unfolding copy_verdict
   copy-fits e =
-      let w = cond (ltb size (length content)) short_buffer Fine in
-      ltb-false size (length content) (room-fine (ltb size (length content)) Fine (then-second (text_verdict content) w e))
+      let w = cond (ltb size (length content)) short_buffer fine in
+      ltb-false size (length content) (room-fine (ltb size (length content)) fine (then-second (text_verdict content) w e))

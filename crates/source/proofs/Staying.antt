@@ -14,12 +14,8 @@ use borrow.Author.Tests.{not-true}
 use Rattle.ascii.proofs.Flags.{and_left, and_right}
 use Rattle.lexer.specs.Continuation.{break_c, break_f}
 use Rattle.source.specs.Joining.{any_cut, byte_of}
-use Rattle.source.specs.Staying.{staying, Stays}
+use Rattle.source.specs.Staying.{is_plain, staying, Stays}
 use Rattle.source.proofs.Kept.{kept_next}
-
--- a byte that begins no continuation
-abbrev pub is_plain : ℕ → Bool
-is_plain b = not (eqb b 92) && not (eqb b 38)
 
 module _ (xs : List ℕ) (i : ℕ) where
   first-is : get_or (drop i xs) 0 0 ≡ get_or xs i 0
@@ -68,14 +64,7 @@ module _ (xs : List ℕ) (from : ℕ) where
         kept = staying-next xs from h e ∙ ap (λ (r : List ℕ). get_or xs from 0 ∷ r) s.kept ∙ rw (n, drop-cons xs from 0, ← add-one from) refl;
       }
 
--- the bytes from a place on, k of them behind the first, are plain
-module _ (xs : List ℕ) (from i : ℕ) where
-  abbrev pub plains : ℕ → Bool
-  plains zero = is_plain (get_or xs i 0)
-  plains (suc k) = plains k && is_plain (get_or xs (i + suc k) 0)
-
-  pub stays-past : (k : ℕ) → i + k < length xs → plains k ≡ true → Stays xs from i → Stays xs from (i + suc k)
-  stays-past zero h e s = stays-more xs from i s (omega arith) e
-  stays-past (suc k) h e s =
-      let n : i + suc k + 1 ≡ i + suc (suc k) = omega arith in
-      rw n at (stays-more xs from (i + suc k) (stays-past k (omega arith) (and_left (plains k) (is_plain (get_or xs (i + suc k) 0)) e) s) h (and_right (plains k) (is_plain (get_or xs (i + suc k) 0)) e))
+-- a run of plain bytes stays
+pub stays-run : (n : ℕ) (xs : List ℕ) (from : ℕ) → from ≤ length xs → n ≡ leading is_plain (drop from xs) → Stays xs from (from + n)
+stays-run zero xs from h e = rw add-zero (stays-none xs from h)
+stays-run (suc n) xs from h e = ?

@@ -3,12 +3,12 @@
 use Prim.Native.Nat.{ℕ, zero, suc, ◌+◌, ◌≤◌, ◌<◌}
 use native.Mathlib.Omega.{arith}
 use mathlib.Core.Bool.{Bool, true, false, cond, not, and-false}
-use Rattle.std.specs.Prelude.{None}
+use Rattle.std.specs.Prelude.{Some, None}
 use mathlib.Core.Path.{◌≡◌, refl, sym, ap, ◌∙◌}
 use mathlib.Core.List.{List, [], ◌∷◌, ◌++◌, map, reverse, reverse-append}
 use lib.ListN.{length, take, drop, get_or, length-map}
 use lib.Seq.{drop-drop, get_or_at}
-use lib.Dec.{ltb, eqb-suc-zero}
+use lib.Dec.{ltb}
 use borrow.Author.Tests.{ne_eqb, le-ltb}
 use Rattle.ascii.specs.Ascii.{is_eol}
 use Rattle.ascii.specs.Text.{starts, leading, is_blank_text, first_high, padded}
@@ -74,7 +74,7 @@ rest_of xs = drop (line_length xs) xs
 
 data First (xs : List ℕ) : Type 0 where
   last : rest_of xs ≡ [] → First xs
-  more : (pre : List ℕ) (e : ℕ) → line_of xs ≡ pre ++ (92 ∷ []) → is_over (rest_of xs) ≡ false → eol_bytes (rest_of xs) ≡ suc e
+  more : (pre : List ℕ) (e : ℕ) → line_of xs ≡ pre ++ (92 ∷ []) → is_over (rest_of xs) ≡ false → eol_bytes (rest_of xs) ≡ Some (suc e)
       → Any (drop (suc e) (rest_of xs)) → First xs
 
 first_more : (x : ℕ) (xs : List ℕ) → (x ≡ 10 → ⊥) → (x ≡ 13 → ⊥) → First xs → First (x ∷ xs)
@@ -114,7 +114,7 @@ module _ (p : Prefix) (later : Bool) (at : ℕ) (xs : List ℕ) where
   good (more pre e a d g h) =
       let q : line_length xs + suc e ≡ suc (line_length xs + e) = omega arith in
       good-end (is_blank_text (drop (suc e) (rest_of xs))) (line_length xs + e)
-      (rw (and-false later, d, g, eqb-suc-zero e, ends pre a, length-leading (λ b. not (is_eol b)) xs, q))
+      (rw (and-false later, d, g, ends pre a, length-leading (λ b. not (is_eol b)) xs, q))
       (rw (drop-drop, q) at h)
 
 fault-good : (p : Prefix) (at x : ℕ) (xs : List ℕ) → Good p (ltb 0 at) at (x ∷ xs) → ((k : ℕ) → Any (drop k xs) → fault_from C p k (suc at) xs ≡ None)

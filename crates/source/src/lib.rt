@@ -20,6 +20,7 @@ pub fn is_short(line: &[u8], text_slots: usize, map_slots: usize) -> bool
     text_slots < line.len() || map_slots < line.len() + 1
 }
 
+#[tactic(auto, unfolding(crate::specs::Verdicts::join_verdict))]
 fn judge_join(
     dialect: Dialect,
     line: &[u8],
@@ -60,6 +61,7 @@ pub fn join_line(
 }
 
 // Map-back: the physical places of the two ends of a joined range.
+#[tactic(auto, unfolding(crate::specs::Calls::span_answer))]
 pub fn map_back(map: &[u16], text_len: usize, start: usize, end: usize) -> Result<Range, Refusal>
     ensures { told result ≡ span_answer map.now text_len start end }
 {
@@ -78,6 +80,7 @@ pub fn map_back(map: &[u16], text_len: usize, start: usize, end: usize) -> Resul
     })
 }
 
+#[tactic(auto, unfolding(crate::specs::Verdicts::copy_verdict))]
 fn judge_copy(content: &[u8], slots: usize) -> Result<(), Refusal>
     ensures { result ≡ copy_verdict content.now slots }
 {

@@ -3,10 +3,11 @@
 use mathlib.Core.Path.{◌≡◌, refl, sym, ap, ◌∙◌}
 use mathlib.Core.Bool.{Bool, true, false, cond}
 use mathlib.Core.List.{List, [], ◌∷◌, ◌++◌, reverse, reverse-append, reverse-reverse}
-use Prim.Native.Nat.{ℕ, suc, ◌-◌, ◌<◌, ◌≤◌}
+use Prim.Native.Nat.{ℕ, suc, ◌+◌, ◌-◌, ◌<◌, ◌≤◌}
 use native.Mathlib.Nat.{zero-add}
 use native.Mathlib.Omega.{arith}
 use lib.ListN.{length, take, drop, length-drop, length-reverse, take-append-drop}
+use lib.Seq.{drop-drop}
 use lib.Dec.{eqb, ltb, leb}
 use borrow.Author.Tests.{ltb-true, ltb-false, eq-eqb, ne_eqb, le-leb, lt-leb}
 use Rattle.ascii.specs.Ascii.{is_trimmed}
@@ -87,6 +88,6 @@ blank-from s =
     let l = ltb-false (leading is_trimmed s) (length s) e in
     ap (λ r. r.end) (trimmed-blank 0 s (omega (arith, leading_le is_trimmed s))) ∙ omega (arith, run-back is_trimmed s l))
 
--- the test of a blank rest is a comparison of places
-pub blank-rest : (s : List ℕ) (i : ℕ) → i ≤ length s → is_blank_text (drop i s) ≡ leb (blank_from s) i
-blank-rest s i h = rw blank-from (run-from is_trimmed s i h)
+-- the test of a blank rest, n bytes behind a place, is a comparison of places
+pub blank-rest : (s : List ℕ) (end n : ℕ) → end + n ≤ length s → is_blank_text (drop n (drop end s)) ≡ leb (blank_from s) (end + n)
+blank-rest s end n h = ap is_blank_text (drop-drop n end s) ∙ rw blank-from (run-from is_trimmed s (end + n) h)

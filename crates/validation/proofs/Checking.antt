@@ -3,20 +3,24 @@
 use Prim.Native.Nat.{ℕ, zero, suc, ◌+◌, ◌-◌, ◌<◌, ◌≤◌}
 use native.Mathlib.Nat.{add-zero}
 use native.Mathlib.Omega.{arith}
-use mathlib.Core.Bool.{Bool, cond, ◌&&◌}
+use mathlib.Core.Bool.{Bool, true, false, cond, ◌&&◌}
 use Rattle.std.specs.Prelude.{Some, None}
-use mathlib.Core.Path.{◌≡◌, refl}
+use mathlib.Core.Path.{◌≡◌, refl, sym, ap, ◌∙◌}
 use mathlib.Core.List.{List, [], ◌∷◌}
 use lib.ListN.{length, take, drop, get_or, length-drop, drop_of_length-le}
 use lib.Seq.{drop-cons, drop-drop, length-take-le}
-use lib.Dec.{eqb, ltb}
+use lib.Dec.{ltb, leb}
+use borrow.Author.Tests.{le-leb, lt-leb}
+use Rattle.std.proofs.lemmas.List.{take_rest}
 use Rattle.ascii.specs.Ascii.{is_blank}
 use Rattle.ascii.specs.Text.{leading, is_blank_text}
 use Rattle.ascii.proofs.Texts.{leading_le}
 use Rattle.lexer.specs.declared.Language.{Language}
 use Rattle.lexer.specs.declared.Prefix.{Prefix}
+use Rattle.validation.proofs.Lines.{over-not}
+use Rattle.validation.proofs.BlankTail.{blank-rest}
 use Rattle.validation.specs.declared.Checked.TheVariants.{Fine, WrongAt, Next}
-use Rattle.validation.specs.Validation.{continued, foreign, line_length, eol_bytes, is_over, check_end, check_line, fault_from}
+use Rattle.validation.specs.Validation.{continued, foreign, line_length, eol_bytes, is_over, check_end, check_line, fault_from, blank_from}
 
 pub length-leading : (q : ℕ → Bool) (xs : List ℕ) → length (take (leading q xs) xs) ≡ leading q xs
 length-leading q xs = length-take-le (leading q xs) xs (leading_le q xs)
@@ -71,23 +75,41 @@ module _ (l : Language) (p : Prefix) where
         rw (q, ← drop-drop n (suc i) line, drop-cons line i 0)
         (rw (fault-next i (get_or line i 0) (drop (suc i) line) n (rw (drop-cons line i 0) at e)) (fault-skip n (suc i) (drop (suc i) line)))
 
--- the check of the physical line at a place, in the places that the code reads at
-module _ (l : Language) (p : Prefix) (s : List ℕ) (at end : ℕ) where
-  pub check-at : (later : Bool) → end ≡ at + line_length (drop at s)
-      → check_line l p later at (drop at s)
-      ≡ cond (later && foreign l p (take (end - at) (drop at s))) (WrongAt (at + leading is_blank (drop at s))) (check_end l p at (take (end - at) (drop at s)) (drop end s))
-  unfolding check_line
-  check-at later e =
-      let q : end - at ≡ line_length (drop at s) = omega arith in
-      rw (q, e) (simp drop-drop)
+-- what an end of line of n bytes behind a physical line leads to, in the places that the code reads at
+module _ (l : Language) (p : Prefix) (s : List ℕ) (at end tail n : ℕ) (ordered : at ≤ end) (within : end < length s) (found : tail ≡ blank_from s)
+    (eol : eol_bytes (take (length s - end) (drop end s)) ≡ Some n) (fits : n ≤ length (take (length s - end) (drop end s))) where
+  abbrev line : List ℕ
+  line = take (end - at) (drop at s)
 
-  pub check-end-at : at ≤ end → end ≤ length s
-      → check_end l p at (take (end - at) (drop at s)) (drop end s)
-      ≡ cond (is_over (drop end s)) Fine
-      (cond (eqb (eol_bytes (drop end s)) 0) (WrongAt end)
-      (cond (is_blank_text (drop (end + eol_bytes (drop end s)) s)) Fine
-      (cond (continued l p (take (end - at) (drop at s))) (Next (end - at + eol_bytes (drop end s))) (WrongAt end))))
-  check-end-at h g =
-      let m : length (take (end - at) (drop at s)) ≡ end - at = length-take-le (end - at) (drop at s) (rw length-drop (omega arith)) in
-      let q : at + (end - at) ≡ end = omega arith in
-      simp (m, q, drop-drop)
+  size : length line ≡ end - at
+  size = length-take-le (end - at) (drop at s) (rw length-drop (omega arith))
+
+  here : at + (end - at) ≡ end
+  here = omega arith
+
+  read : eol_bytes (drop end s) ≡ Some n
+  read = rw take_rest at eol
+
+  blank : is_blank_text (drop n (drop end s)) ≡ leb tail (end + n)
+  blank = rw found (blank-rest s end n (omega (arith, rw take_rest at fits, length-drop end s)))
+
+  pub end-blank : tail ≤ end + n → check_end l p at line (drop end s) ≡ Fine
+  end-blank h = rw (over-not s end within, read, blank, le-leb tail (end + n) h)
+
+  pub end-next : end + n < tail → continued l p line ≡ true → check_end l p at line (drop end s) ≡ Next (end - at + n)
+  end-next h c = rw (over-not s end within, read, blank, lt-leb tail (end + n) h, c, size)
+
+  pub end-wrong : end + n < tail → continued l p line ≡ false → check_end l p at line (drop end s) ≡ WrongAt end
+  end-wrong h c = rw (over-not s end within, read, blank, lt-leb tail (end + n) h, c, size, here)
+
+-- the check of the physical line at a place, in the places that the code reads at
+pub check-at : (l : Language) (p : Prefix) (s : List ℕ) (at end : ℕ) (later : Bool) → end ≡ at + line_length (drop at s)
+    → check_line l p later at (drop at s)
+    ≡ cond (later && foreign l p (take (end - at) (drop at s))) (WrongAt (at + leading is_blank (drop at s))) (check_end l p at (take (end - at) (drop at s)) (drop end s))
+unfolding check_line
+check-at l p s at end later e =
+    let k = line_length (drop at s) in
+    let q : k ≡ end - at = omega arith in
+    let r : drop k (drop at s) ≡ drop end s = drop-drop k at s ∙ ap (λ n. drop n s) (sym e) in
+    ap (λ n. cond (later && foreign l p (take n (drop at s))) (WrongAt (at + leading is_blank (drop at s))) (check_end l p at (take n (drop at s)) (drop k (drop at s)))) q
+    ∙ ap (λ rest. cond (later && foreign l p (take (end - at) (drop at s))) (WrongAt (at + leading is_blank (drop at s))) (check_end l p at (take (end - at) (drop at s)) rest)) r

@@ -1,3 +1,3 @@
-pub mod Checking
 pub mod Lines
 pub mod BlankTail
+pub mod Checking

@@ -72,19 +72,19 @@ fn code_length(line: &[u8]) -> usize
     line.len()
 }
 
+// Whether this is the last byte.
+fn is_last(b: u8, text: &[u8]) -> bool
+    requires { 0 < b }
+    ensures { result ≡ starts b (reverse text.now) }
+{
+    matches!(text, [.., last] if *last == b)
+}
+
 // Whether the last byte that trimming leaves is `&`.
 fn ends_in_marker(text: &[u8]) -> bool
     ensures { result ≡ ends_in 38 text.now }
 {
-    let end = ascii::trimmed_end(text);
-    0 < end && text[end - 1] == b'&'
-}
-
-// Whether the last byte is a backslash.
-fn ends_in_backslash(text: &[u8]) -> bool
-    ensures { result ≡ starts 92 (reverse text.now) }
-{
-    text.ends_with(b"\\")
+    is_last(b'&', &text[..ascii::trimmed_end(text)])
 }
 
 // A physical line without its indentation.
@@ -95,6 +95,7 @@ fn unindented(line: &[u8]) -> &[u8]
 }
 
 // Whether a physical line of Fortran is continued: its code, without indentation and sentinel, ends in `&`.
+#[tactic(auto, unfolding(crate::specs::Validation::continued_f))]
 fn continued_f(prefix: Prefix, line: &[u8]) -> bool
     ensures { result ≡ continued_f prefix line.now }
 {
@@ -108,7 +109,7 @@ fn continued(dialect: Dialect, line: &[u8]) -> bool
     ensures { result ≡ continued_in dialect.language dialect.prefix line.now }
 {
     match dialect.language {
-        Language::C => ends_in_backslash(line),
+        Language::C => is_last(b'\\', line),
         Language::FortranFree | Language::FortranFixed => continued_f(dialect.prefix, line),
     }
 }
@@ -153,20 +154,12 @@ struct Line<'a> {
     ghost tail_found: { tail ≡ blank_from text.now },
 }
 
-impl<'a> Line<'a> {
-    fn new(dialect: Dialect, text: &'a [u8]) -> Line<'a>
-        ensures dialect { result.dialect ≡ dialect }
-        ensures text { result.text ≡ text }
-    {
-        let tail = ascii::trim_range(text).end;
-        Line { dialect, text, tail }
-    }
-
+impl Line<'_> {
     // What follows the physical line from a place to its end: nothing, a lone CR, a blank tail, or more text.
-    fn check_end(self, at: usize, end: usize) -> Checked
-        requires { (at ≤ end) × (end ≤ length self.text.now) }
-        ensures value { result ≡ check_end self.dialect.language self.dialect.prefix at (take (end - at) (drop at self.text.now)) (drop end self.text.now) }
-        ensures onward { Onward at (length self.text.now) result }
+    fn check_end(&self, at: usize, end: usize) -> Checked
+        requires { (at ≤ end) × (end ≤ length self.now.text.now) }
+        ensures value { result ≡ check_end self.now.dialect.language self.now.dialect.prefix at (take (end - at) (drop at self.now.text.now)) (drop end self.now.text.now) }
+        ensures onward { Onward at (length self.now.text.now) result }
     {
         if end == self.text.len() {
             return Checked::Fine;
@@ -185,10 +178,10 @@ impl<'a> Line<'a> {
     }
 
     // The physical line at a place, with all that follows it.
-    fn check(self, at: usize) -> Checked
-        requires { at ≤ length self.text.now }
-        ensures value { result ≡ check_line self.dialect.language self.dialect.prefix (ltb 0 at) at (drop at self.text.now) }
-        ensures onward { Onward at (length self.text.now) result }
+    fn check(&self, at: usize) -> Checked
+        requires { at ≤ length self.now.text.now }
+        ensures value { result ≡ check_line self.now.dialect.language self.now.dialect.prefix (ltb 0 at) at (drop at self.now.text.now) }
+        ensures onward { Onward at (length self.now.text.now) result }
     {
         let end = ascii::run_end::<InLine>(self.text, at);
         if 0 < at && foreign(self.dialect, &self.text[at..end]) {
@@ -202,7 +195,11 @@ impl<'a> Line<'a> {
 pub fn validate_logical_line(dialect: Dialect, line: &[u8]) -> Option<usize>
     ensures { result ≡ fault dialect.language dialect.prefix line.now }
 {
-    let whole = Line::new(dialect, line);
+    let whole = Line {
+        dialect,
+        text: line,
+        tail: ascii::trim_range(line).end,
+    };
     let mut at = 0;
     while at < line.len() {
         match whole.check(at) {
