@@ -18,7 +18,7 @@ pub struct Request<'s> {
 impl<'s> Request<'s> {
     pub fn parse(words: &[&[u8]], spelled: &'s mut Spelled) -> Option<Request<'s>> {
         let [length, start, end, map] = *words else {
-            return None
+            return None;
         };
         Some(Request {
             length: number(length, MOST)?,

@@ -1,16 +1,12 @@
 // The words LANG PREFIX TEXTSLOTS MAPSLOTS, with which two requests begin; a third has LANG alone.
-ghost use Rattle.std.specs.Prelude.{◌≤◌};
-
-use crate::words::number;
+use crate::slots::Count;
 use lexer::{Dialect, Language, Prefix};
 
 #[derive(Clone, Copy)]
 pub struct Form {
     pub dialect: Dialect,
-    pub text: usize,
-    pub map: usize,
-    ghost text_within: { text ≤ 20000 },
-    ghost map_within: { map ≤ 20000 },
+    pub text: Count<20000>,
+    pub map: Count<20000>,
 }
 
 pub fn language(word: &[u8]) -> Option<Language> {
@@ -38,8 +34,8 @@ impl Form {
                 language: language(lang)?,
                 prefix: prefix(pre)?,
             },
-            text: number(text, 20000)?,
-            map: number(map, 20000)?,
+            text: Count::parse(text)?,
+            map: Count::parse(map)?,
         })
     }
 }

@@ -1,7 +1,7 @@
 // The request `join LANG PREFIX TEXTSLOTS MAPSLOTS LINE`.
 use crate::form::Form;
 use crate::print::Told;
-use crate::slots::{Slots, marked};
+use crate::slots::Slots;
 use crate::words::hex;
 use crate::work::{Lent, Spelled};
 use std::io;
@@ -16,7 +16,7 @@ pub struct Request<'s> {
 impl<'s> Request<'s> {
     pub fn parse(words: &[&[u8]], spelled: &'s mut Spelled) -> Option<Request<'s>> {
         let [language, prefix, text, map, line] = *words else {
-            return None
+            return None;
         };
         Some(Request {
             form: Form::parse([language, prefix, text, map])?,
@@ -25,8 +25,8 @@ impl<'s> Request<'s> {
     }
 
     pub fn answer(self, lent: &mut Lent, out: &mut impl Write) -> io::Result<()> {
-        let text = marked(&mut lent.bytes, self.form.text);
-        let map = marked(&mut lent.numbers, self.form.map);
+        let text = self.form.text.lend(&mut lent.bytes);
+        let map = self.form.map.lend(&mut lent.numbers);
         let answer = source::join_line(self.form.dialect, self.line, text, map);
         let told = Told(answer.map(|length| [length]));
         writeln!(out, "{told} : {} : {}", Slots(text), Slots(map))

@@ -1,10 +1,8 @@
 // The request `line LANG PREFIX TEXTSLOTS MAPSLOTS RECORDSLOTS BOOK LINE`.
-ghost use Rattle.std.specs.Prelude.{◌≤◌};
-
 use crate::form::Form;
 use crate::print::Told;
-use crate::slots::{Slot, Slots, marked};
-use crate::words::{hex, number};
+use crate::slots::{Count, Slot, Slots};
+use crate::words::hex;
 use crate::work::{Lent, Spelled};
 use clause::ClauseRecord;
 use reader::Reading;
@@ -14,10 +12,9 @@ use std::io::Write;
 #[derive(Clone, Copy)]
 pub struct Request<'s> {
     form: Form,
-    slots: usize,
+    slots: Count<512>,
     book: &'s [u8],
     line: &'s [u8],
-    ghost within: { slots ≤ 512 },
 }
 
 fn numbers(reading: Reading) -> [usize; 5] {
@@ -34,12 +31,12 @@ fn numbers(reading: Reading) -> [usize; 5] {
 impl<'s> Request<'s> {
     pub fn parse(words: &[&[u8]], spelled: &'s mut Spelled) -> Option<Request<'s>> {
         let [language, prefix, text, map, slots, book, line] = *words else {
-            return None
+            return None;
         };
         let Spelled { first, second, .. } = spelled;
         Some(Request {
             form: Form::parse([language, prefix, text, map])?,
-            slots: number(slots, 512)?,
+            slots: Count::parse(slots)?,
             book: hex(book, first)?,
             line: hex(line, second)?,
         })
@@ -52,12 +49,20 @@ impl<'s> Request<'s> {
             book,
             line,
         } = self;
-        let text = marked(&mut lent.bytes, form.text);
-        let map = marked(&mut lent.numbers, form.map);
+        let text = form.text.lend(&mut lent.bytes);
+        let map = form.map.lend(&mut lent.numbers);
         let records = [ClauseRecord::MARK; 512];
-        let done = reader::read_line_array(form.dialect, book, line, text, map, slots, records);
+        let done = reader::read_line_array(
+            form.dialect,
+            book,
+            line,
+            text,
+            map,
+            slots.get(),
+            records,
+        );
         let told = Told(done.answer.map(numbers));
         write!(out, "{told} : {} : {}", Slots(text), Slots(map))?;
-        writeln!(out, " : {}", Slots(&done.records[..slots]))
+        writeln!(out, " : {}", Slots(slots.of(&done.records)))
     }
 }

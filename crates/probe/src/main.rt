@@ -24,7 +24,10 @@ use work::{Lent, Spelled};
 // A request of so many bytes, its line's end apart, is too long.
 const TOO_LONG: usize = 262144;
 
-// Reads up to the end of the next line, and leaves that end and the rest of a request that is too long out.
+// The words of the longest request; one more tells that there are too many.
+const MOST_WORDS: usize = 8;
+
+// Reads the next request, of one that is too long its first bytes; false where there is none.
 fn next_request(input: &mut impl BufRead, line: &mut Vec<u8>) -> io::Result<bool> {
     line.clear();
     input
@@ -52,7 +55,10 @@ fn answer(
     if line.len() == TOO_LONG {
         return out.write_all(b"bad request\n");
     }
-    let words: Vec<&[u8]> = line.split(|b| *b == b' ').collect(alloc)?;
+    let words: Vec<&[u8]> = line
+        .split(|b| *b == b' ')
+        .take(MOST_WORDS + 1)
+        .collect(alloc)?;
     match calls::call_of(words.as_slice(), spelled) {
         Some(call) => call.answer(lent, out),
         None => out.write_all(b"bad request\n"),
@@ -70,22 +76,20 @@ fn run(
     let mut input = BufReader::with_capacity(alloc, 65536, input)?;
     let mut out = BufWriter::with_capacity(alloc, 65536, output)?;
     let mut line = Vec::new(alloc);
-    let mut end = Ok(());
     for _ in 0..u64::MAX {
         match next_request(&mut input, &mut line) {
             Ok(true) => answer(alloc, line.as_slice(), spelled, lent, &mut out)?,
             Ok(false) => break,
             Err(e) => {
-                end = Err(e);
-                break;
+                if !line.is_empty() {
+                    answer(alloc, line.as_slice(), spelled, lent, &mut out)?;
+                }
+                out.flush()?;
+                return Err(e);
             }
         }
     }
-    if end.is_err() && !line.is_empty() {
-        answer(alloc, line.as_slice(), spelled, lent, &mut out)?;
-    }
-    out.flush()?;
-    end
+    out.flush()
 }
 
 fn main(rt: HostRuntime) -> io::Result<()> {

@@ -1,9 +1,7 @@
 // The request `seq SLOTS BOOK TEXT`.
-ghost use Rattle.std.specs.Prelude.{◌≤◌};
-
 use crate::print::Told;
-use crate::slots::{Slot, Slots};
-use crate::words::{hex, number};
+use crate::slots::{Count, Slot, Slots};
+use crate::words::hex;
 use crate::work::Spelled;
 use clause::ClauseRecord;
 use std::io;
@@ -11,20 +9,19 @@ use std::io::Write;
 
 #[derive(Clone, Copy)]
 pub struct Request<'s> {
-    slots: usize,
+    slots: Count<512>,
     book: &'s [u8],
     text: &'s [u8],
-    ghost within: { slots ≤ 512 },
 }
 
 impl<'s> Request<'s> {
     pub fn parse(words: &[&[u8]], spelled: &'s mut Spelled) -> Option<Request<'s>> {
         let [slots, book, text] = *words else {
-            return None
+            return None;
         };
         let Spelled { first, second, .. } = spelled;
         Some(Request {
-            slots: number(slots, 512)?,
+            slots: Count::parse(slots)?,
             book: hex(book, first)?,
             text: hex(text, second)?,
         })
@@ -32,8 +29,8 @@ impl<'s> Request<'s> {
 
     pub fn answer(self, out: &mut impl Write) -> io::Result<()> {
         let Request { slots, book, text } = self;
-        let done = clause::parse_sequence_array(book, text, slots, [ClauseRecord::MARK; 512]);
+        let done = clause::parse_sequence_array(book, text, slots.get(), [ClauseRecord::MARK; 512]);
         let told = Told(done.answer.map(|end| [end.count, end.rest]));
-        writeln!(out, "{told} : {}", Slots(&done.records[..slots]))
+        writeln!(out, "{told} : {}", Slots(slots.of(&done.records)))
     }
 }

@@ -1,6 +1,7 @@
 // The slots that a call is lent: bytes, numbers or clause records.
-ghost use Rattle.std.specs.Prelude.{◌≤◌, length};
+ghost use Rattle.std.specs.Prelude.{◌≤◌};
 
+use crate::words::number;
 use clause::ClauseRecord;
 use std::fmt;
 use std::fmt::{Display, Formatter};
@@ -82,13 +83,35 @@ impl<T: Slot> Display for Slots<'_, T> {
     }
 }
 
-// The first n slots of a buffer, each with its mark.
-pub fn marked<T: Slot>(buffer: &mut [T], n: usize) -> &mut [T]
-    requires { n ≤ length buffer.old }
-{
-    let slots = &mut buffer[..n];
-    for slot in slots.iter_mut() {
-        *slot = T::MARK;
+// How many slots of a buffer of N a request lends.
+#[derive(Clone, Copy)]
+pub struct Count<const N: usize> {
+    n: usize,
+    ghost within: { n ≤ N },
+}
+
+impl<const N: usize> Count<N> {
+    pub fn parse(word: &[u8]) -> Option<Count<N>> {
+        Some(Count {
+            n: number(word, N)?,
+        })
     }
-    slots
+
+    pub fn get(self) -> usize {
+        self.n
+    }
+
+    pub fn of<T>(self, buffer: &[T; N]) -> &[T] {
+        &buffer[..self.n]
+    }
+
+    // The slots, each with its mark.
+    pub fn lend<T: Slot>(self, buffer: &mut [T; N]) -> &mut [T] {
+        let slots = &mut buffer[..self.n];
+        // `fill` asks that a clone can't fail, which is not known of any T.
+        for slot in slots.iter_mut() {
+            *slot = T::MARK;
+        }
+        slots
+    }
 }

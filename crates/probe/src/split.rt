@@ -1,10 +1,8 @@
 // The request `split LANG SEP ANGLES SLOTS TEXT`.
-ghost use Rattle.std.specs.Prelude.{◌≤◌};
-
 use crate::form::language;
 use crate::print::Told;
-use crate::slots::{Slots, marked};
-use crate::words::{flag, hex, number};
+use crate::slots::{Count, Slots};
+use crate::words::{flag, hex};
 use crate::work::{Lent, Spelled};
 use delimiter::Separator;
 use lexer::Language;
@@ -16,9 +14,8 @@ pub struct Request<'s> {
     language: Language,
     separator: Separator,
     angles: bool,
-    slots: usize,
+    slots: Count<20000>,
     text: &'s [u8],
-    ghost within: { slots ≤ 20000 },
 }
 
 fn separator(word: &[u8]) -> Option<Separator> {
@@ -32,19 +29,19 @@ fn separator(word: &[u8]) -> Option<Separator> {
 impl<'s> Request<'s> {
     pub fn parse(words: &[&[u8]], spelled: &'s mut Spelled) -> Option<Request<'s>> {
         let [lang, sep, angles, slots, text] = *words else {
-            return None
+            return None;
         };
         Some(Request {
             language: language(lang)?,
             separator: separator(sep)?,
             angles: flag(angles)?,
-            slots: number(slots, 20000)?,
+            slots: Count::parse(slots)?,
             text: hex(text, &mut spelled.first)?,
         })
     }
 
     pub fn answer(self, lent: &mut Lent, out: &mut impl Write) -> io::Result<()> {
-        let items = marked(&mut lent.numbers, self.slots);
+        let items = self.slots.lend(&mut lent.numbers);
         let answer = delimiter::split_top_level(
             self.text,
             self.language,

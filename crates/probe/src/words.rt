@@ -35,8 +35,8 @@ fn hex_digit(b: u8) -> Option<u8>
 
 // Bytes, two hexadecimal digits each or `-` for none, put at the start of a buffer.
 pub fn hex<'s>(word: &[u8], buffer: &'s mut [u8]) -> Option<&'s [u8]> {
-    if word == b"-".as_slice() {
-        return Some(b"");
+    if matches!(word, b"-") {
+        return Some(&[]);
     }
     if word.is_empty() || word.len() % 2 != 0 {
         return None;
@@ -50,13 +50,13 @@ pub fn hex<'s>(word: &[u8], buffer: &'s mut [u8]) -> Option<&'s [u8]> {
 
 // 16-bit numbers, separated by commas, or `-` for none, put at the start of a buffer.
 pub fn list<'s>(word: &[u8], buffer: &'s mut [u16]) -> Option<&'s [u16]> {
-    if word == b"-".as_slice() {
+    if matches!(word, b"-") {
         return Some(&[]);
     }
-    let mut n = 0;
-    for item in word.split(|b| *b == b',') {
-        *buffer.get_mut(n)? = number(item, 65535)? as u16;
-        n += 1;
+    let commas = word.iter().filter(|b| **b == b',').count();
+    let numbers = buffer.get_mut(..commas + 1)?;
+    for (item, slot) in word.split(|b| *b == b',').zip(numbers.iter_mut()) {
+        *slot = number(item, 65535)? as u16;
     }
-    buffer.get(..n)
+    Some(numbers)
 }
