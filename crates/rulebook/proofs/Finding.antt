@@ -13,7 +13,7 @@ use Rattle.rulebook.specs.declared.Header.{Header}
 use Rattle.rulebook.specs.declared.index.FoundEntry.{FoundEntry}
 use Rattle.bookform.specs.Format.{rule_for, HasForm}
 use Rattle.rulebook.specs.Book.{Entry, rule_said, name_at, entries_from, Laid, entries_in, LaidIn, clauses_of, header_of, book_of}
-use Rattle.rulebook.specs.Lookup.{entry_from, find_from, no_entry, rule_at, clause_entry}
+use Rattle.rulebook.specs.Lookup.{comparison, entry_from, find_from, no_entry, rule_at, clause_entry}
 use Rattle.rulebook.proofs.Forms.{form-directives, form-clauses}
 
 -- the index alone
@@ -110,3 +110,8 @@ module _ (bs : List ℕ) (h : Header) (e : h ≡ header_of bs) (name : List ℕ)
       → clause_entry (book_of bs) name ≡ record { index = no_entry; rule = h.default_rule }
   unfolding clause_entry
   entry-missing found = rw (book-case bs h e, book-clauses bs h e, book-default bs h e, index-found, found)
+
+-- the directive's entry that the definition finds
+pub directive-index : (bs : List ℕ) (h : Header) → h ≡ header_of bs → (name : List ℕ)
+    → entry_from (comparison (book_of bs)) 0 name (book_of bs).directives ≡ index_of (find_from (comparing h.ignores_case) 0 name (entries_in h.directives bs))
+directive-index bs h e name = rw (book-case bs h e, book-directives bs h e) (index-found (comparing h.ignores_case) 0 name (entries_in h.directives bs))

@@ -4,7 +4,7 @@ use mathlib.Core.Path.{◌≡◌, refl, sym, ap, ◌∙◌}
 use mathlib.Core.Bool.{Bool, true, false, cond, ◌&&◌, ◌||◌, true≢false}
 use Rattle.std.specs.Prelude.{Option, Some, None}
 use mathlib.Core.List.{List, [], ◌∷◌, ◌++◌, append_assoc, append-nil}
-use Prim.Native.Nat.{ℕ, zero, suc, ◌+◌, ◌-◌, ◌*◌, ◌<◌, ◌≤◌}
+use Prim.Native.Nat.{ℕ, zero, suc, ◌+◌, ◌-◌, ◌*◌, ◌/◌, ◌%◌, ◌<◌, ◌≤◌}
 use native.Mathlib.Numerals.{add-one}
 use native.Mathlib.Omega.{arith}
 use lib.ListN.{length, get_or, set, replicate}
@@ -12,7 +12,7 @@ use lib.Seq.{get_or-set_same, get_or-set_other}
 use lib.Dec.{eqb}
 use borrow.Author.Tests.{eqb-true, eq-eqb}
 use Rattle.ascii.specs.Ascii.{fold}
-use Rattle.ascii.specs.Text.{same_by, comparing}
+use Rattle.ascii.specs.Text.{part, same_by, comparing}
 use Rattle.rulebook.specs.declared.index.FoundEntry.{FoundEntry}
 use Rattle.rulebook.specs.declared.index.NameIndex.{NameIndex}
 use Rattle.rulebook.specs.Book.{Entry, name_at, entry_at, entries_from, place_after, Laid}
@@ -108,6 +108,37 @@ module _ (lead first : ℕ) (bs : List ℕ) where
     pub last-before : (m : ℕ) → same_by (comparing ic) (name_of lead first bs m) name ≡ false → last_named (comparing ic) name lead first bs (m + 1) ≡ last_named (comparing ic) name lead first bs m
     unfolding last_named
     last-before m h = rw (add-one m, h)
+
+    -- What a slot of the index tells that is not 0: the last of the first k entries with the name's signature.
+    module _ (n : ℕ) (index : NameIndex) (d : Indexed lead first n bs index) (laid : Laid lead n first bs)
+        (k slot : ℕ) (kn : k ≤ n) (is : slot ≡ last_slot lead first bs (signature name) k) (some : slot ≡ 0 → ⊥) where
+      pub told : Reached k slot
+      told = rw is (reached k (λ z. some (is ∙ z)))
+
+      pub number : (slot - 1) % 256 ≡ told.m
+      number = omega (arith, told.is, told.below, d.few)
+
+      pub place : first + (slot - 1) / 256 ≡ place_after lead told.m first bs
+      place = omega (arith, told.is, told.below, d.few, behind-first told.m)
+
+      pub inside : (name_at lead (first + (slot - 1) / 256) bs).end ≤ length bs
+      inside = rw place (laid-at lead bs n told.m first (omega (arith, told.below)) laid)
+
+      -- it has the name, or the last one before it with the same signature is asked
+      pub found-here : same_by (comparing ic) (part bs (name_at lead (first + (slot - 1) / 256) bs)) name ≡ true
+          → last_named (comparing ic) name lead first bs k ≡ Some (record { index = (slot - 1) % 256; at = first + (slot - 1) / 256 })
+      found-here h = rw (number, place) (told.rest ∙ last-here told.m (rw place at h))
+
+      linked : get_or index.links ((slot - 1) % 256) 0 ≡ last_slot lead first bs (signature name) told.m
+      linked = rw number (d.links told.m (omega (arith, told.below)) ∙ ap (λ (q : ℕ). last_slot lead first bs q told.m) told.signed)
+
+      pub link-less : get_or index.links ((slot - 1) % 256) 0 < slot
+      link-less = rw linked (omega (arith, slot-low (signature name) told.m, told.is))
+
+      pub found-before : same_by (comparing ic) (part bs (name_at lead (first + (slot - 1) / 256) bs)) name ≡ false
+          → (j : ℕ) × (j ≤ n) × (get_or index.links ((slot - 1) % 256) 0 ≡ last_slot lead first bs (signature name) j)
+          × (last_named (comparing ic) name lead first bs j ≡ last_named (comparing ic) name lead first bs k)
+      found-before h = (told.m, omega (arith, told.below), linked, sym (last-before told.m (rw place at h)) ∙ sym told.rest)
 
   -- no entry yet
   pub indexed-none : (index : NameIndex) → lead ≤ 1 → Blank index → Indexed lead first 0 bs index

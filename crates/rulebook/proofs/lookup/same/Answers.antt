@@ -1,5 +1,6 @@
 -- `rulebook::lookup::same`: all pairs of bytes compare equal, asked from the end; or the lengths differ.
-use Rattle.std.proofs.Common.{◌≡◌, length, sym, ◌∙◌, arith, rules, tests}
+use Rattle.std.proofs.Common.{◌≡◌, length, reverse, sym, ◌∙◌, arith, rules, tests, ne_eqb}
+use Rattle.std.specs.List.{list_all, zip}
 use Rattle.std.proofs.lemmas.Iterator.{YieldsList-from_zip}
 use Rattle.std.proofs.lemmas.Iterator.Adapters.{YieldsList-from_rev_slice}
 use Rattle.std.proofs.lemmas.Iterator.Search.{all_from_yields_List}
@@ -9,14 +10,12 @@ use Rattle.rulebook.proofs.lookup.same.Goals as goal
 
 pub returns-then-a-b : goal.returns-then-a-b
 returns-then-a-b c =
-    let a = c.args.a.now in
-    let b = c.args.b.now in
-    let f = comparing c.args.ignore_case in
-    all_from_yields_List (pair_same f) _ _ _ c.all.ensures.ran
-    (YieldsList-from_zip (YieldsList-from_rev_slice a cc) (YieldsList-from_rev_slice b cc))
-    (λ x r q k. search (rules, tests))
-    ∙ same-backwards f a b (omega arith)
+    let e : c.all.result ≡ list_all (pair_same (comparing c.args.ignore_case)) (zip (reverse c.args.a.now) (reverse c.args.b.now)) =
+    all_from_yields_List (pair_same (comparing c.args.ignore_case)) c.all.new.self _ c.all.result c.all.ensures.ran
+    (YieldsList-from_zip (YieldsList-from_rev_slice c.args.a.now cc) (YieldsList-from_rev_slice c.args.b.now cc))
+    (λ x r q k. search (rules, tests)) in
+    e ∙ same-backwards (comparing c.args.ignore_case) c.args.a.now c.args.b.now (omega arith)
 
 pub returns-else-a-b : goal.returns-else-a-b
 returns-else-a-b c =
-    sym (same-lengths (comparing c.args.ignore_case) c.args.a.now c.args.b.now (omega arith)) ∙ ?
+    rw (same-lengths (comparing c.args.ignore_case) c.args.a.now c.args.b.now c.if-a-b.false, ne_eqb (length c.args.a.now) (length c.args.b.now) c.if-a-b.false)

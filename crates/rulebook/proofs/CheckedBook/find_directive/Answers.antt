@@ -1,0 +1,20 @@
+-- `rulebook::CheckedBook::find_directive`: the index of what is found among the directive entries.
+use Rattle.std.proofs.Common.{◌≡◌, ap, sym, ◌∙◌}
+use Rattle.rulebook.proofs.Forms.{valid-form}
+use Rattle.rulebook.proofs.Finding.{index_of, header-directives, directive-index}
+use Rattle.rulebook.proofs.CheckedBook.find_directive.Goals as goal
+
+pub look_up-requires-clause-laid_in : goal.look_up-requires-clause-laid_in
+look_up-requires-clause-laid_in c =
+    let b = c.args.self.now in
+    header-directives b.bytes.now b.header (valid-form b.bytes.now b.valid) b.header_read
+
+pub returns-in_err-found : goal.returns-in_err-found
+returns-in_err-found c =
+    let b = c.args.self.now in
+    c.from_residual.ensures ∙ sym (directive-index b.bytes.now b.header b.header_read c.args.name.now ∙ ap index_of (sym c.look_up.ensures ∙ c.in_err-found.was))
+
+pub returns : goal.returns
+returns c =
+    let b = c.args.self.now in
+    sym (directive-index b.bytes.now b.header b.header_read c.args.name.now ∙ ap index_of (sym c.look_up.ensures ∙ c.in_ok-found.was))
