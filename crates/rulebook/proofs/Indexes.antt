@@ -7,8 +7,9 @@ use lib.ListN.{get_or}
 use Rattle.rulebook.specs.declared.Header.{Header}
 use Rattle.bookform.specs.declared.Expect.TheVariants.{HeaderByte}
 use Rattle.bookform.specs.Format.{bad_from, HasForm}
-use Rattle.rulebook.specs.Book.{clauses_of, header_of, book_of}
+use Rattle.rulebook.specs.Book.{place_after, entries_in, clauses_of, header_of, book_of}
 use Rattle.rulebook.specs.Check.{repeat_from, or_else, book_fault}
+use Rattle.rulebook.proofs.Finding.{book-directives, book-clauses}
 
 module _ (bs : List ℕ) where
   -- the book's fault: in its form, or else a directive that repeats another, or else a clause
@@ -41,3 +42,16 @@ module _ (bs : List ℕ) where
     pub count-clauses : h.clauses.count ≡ get_or bs 8 0
     unfolding header_of clauses_of
     count-clauses = rw e
+
+  -- they begin where the directives end
+  pub clauses-begin : (header_of bs).clauses.first ≡ place_after (header_of bs).directives.lead (header_of bs).directives.count (header_of bs).directives.first bs
+  unfolding header_of clauses_of
+  clauses-begin = refl
+
+  -- the fault of a book whose form is right, in the entries of its header
+  pub directives-fault : HasForm bs → (p : ℕ) → repeat_from [] (entries_in (header_of bs).directives bs) ≡ Some p → book_fault bs ≡ Some p
+  directives-fault f p e = fault-first p f (rw (book-directives bs (header_of bs) refl) e)
+
+  pub clauses-fault : HasForm bs → repeat_from [] (entries_in (header_of bs).directives bs) ≡ None
+      → book_fault bs ≡ repeat_from [] (entries_in (header_of bs).clauses bs)
+  clauses-fault f e = rw (fault-left f (rw (book-directives bs (header_of bs) refl) e), book-clauses bs (header_of bs) refl)

@@ -20,7 +20,7 @@ use Rattle.rulebook.specs.Check.{is_named, repeat_from}
 use Rattle.rulebook.specs.Lookup.{find_from}
 use Rattle.rulebook.specs.Signature.{signature}
 use Rattle.rulebook.specs.Index.{name_of, slot_of, last_slot, last_named, Indexed, Blank}
-use Rattle.rulebook.proofs.Laying.{entries-snoc, place-snoc}
+use Rattle.rulebook.proofs.Laying.{entries-snoc, place-snoc, laid-at}
 use Rattle.rulebook.proofs.Repeating.{is_found, named-found}
 use Rattle.rulebook.proofs.Signatures.{signed-apart}
 
@@ -30,13 +30,6 @@ zero-at zero zero = refl
 zero-at zero (suc j) = refl
 zero-at (suc n) zero = refl
 zero-at (suc n) (suc j) = zero-at n j
-
--- the name of an entry lies inside the book
-pub laid-at : (lead : ℕ) (bs : List ℕ) (n m at : ℕ) → m < n → Laid lead n at bs → (name_at lead (place_after lead m at bs) bs).end ≤ length bs
-unfolding Laid place_after
-laid-at lead bs zero m at h l = absurd (omega arith)
-laid-at lead bs (suc n) zero at h l = l.1
-laid-at lead bs (suc n) (suc m) at h l = laid-at lead bs n m (name_at lead at bs).end (omega arith) l.2
 
 module _ (lead first : ℕ) (bs : List ℕ) where
   -- entries stand one behind the other

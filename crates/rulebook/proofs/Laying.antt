@@ -1,11 +1,12 @@
 -- Laws of entries that lie inside a book: the next one, one more at the end, fewer of them.
 -- A law about a next entry speaks of n entries, m + 1 of them, and of the range r of the first one's name. Assumes nothing.
-use mathlib.Core.Path.{◌≡◌, refl}
+use mathlib.Core.Path.{◌≡◌, refl, sym, ap}
 use mathlib.Core.List.{List, [], ◌∷◌, ◌++◌}
-use Prim.Native.Nat.{ℕ, zero, suc, ◌+◌, ◌<◌, ◌≤◌}
+use Prim.Native.Nat.{ℕ, zero, suc, ◌+◌, ◌-◌, ◌<◌, ◌≤◌}
 use native.Mathlib.Numerals.{add-one}
 use native.Mathlib.Omega.{arith}
-use lib.ListN.{length, get_or}
+use lib.ListN.{length, drop, get_or, length-drop}
+use Rattle.std.proofs.lemmas.List.{length-take-le}
 use Rattle.ascii.specs.declared.Range.{Range}
 use Rattle.ascii.specs.Text.{part}
 use Rattle.rulebook.specs.Book.{rule_led, name_at, entry_at, entries_from, names_from, place_after, Laid}
@@ -71,3 +72,42 @@ module _ (lead : ℕ) (bs : List ℕ) where
   unfolding place_after
   place-snoc zero at = refl
   place-snoc (suc k) at = let q : suc k + 1 ≡ suc (k + 1) = omega arith in rw (q, place-snoc k (name_at lead at bs).end)
+
+  -- the name of an entry lies inside the book, and is as long as its length byte says
+  pub laid-at : (n m at : ℕ) → m < n → Laid lead n at bs → (name_at lead (place_after lead m at bs) bs).end ≤ length bs
+  unfolding Laid place_after
+  laid-at zero m at h l = absurd (omega arith)
+  laid-at (suc n) zero at h l = l.1
+  laid-at (suc n) (suc m) at h l = laid-at n m (name_at lead at bs).end (omega arith) l.2
+
+  pub name-long : (at : ℕ) → (name_at lead at bs).end ≤ length bs → length (part bs (name_at lead at bs)) ≡ get_or bs (at + lead) 0
+  name-long at h =
+      let d : length (drop (at + lead + 1) bs) ≡ length bs - (at + lead + 1) = length-drop (at + lead + 1) bs in
+      let e : at + lead + 1 + get_or bs (at + lead) 0 - (at + lead + 1) ≡ get_or bs (at + lead) 0 = omega arith in
+      rw e (length-take-le (get_or bs (at + lead) 0) (drop (at + lead + 1) bs) (omega arith))
+
+  -- names one after another: how many there are, and what a turn over them has
+  pub length-names : (n at : ℕ) → length (names_from lead n at bs) ≡ n
+  unfolding entries_from
+  length-names zero at = refl
+  length-names (suc n) at = ap suc (length-names n (name_at lead at bs).end)
+
+  pub record Turn (n at : ℕ) (name : List ℕ) (rest : List (List ℕ)) : Type 0 where
+    pub more : n ≡ n - 1 + 1
+    pub named : name ≡ part bs (name_at lead at bs)
+    pub left : rest ≡ names_from lead (n - 1) (name_at lead at bs).end bs
+    pub inside : (name_at lead at bs).end ≤ length bs
+    pub laid : Laid lead (n - 1) (name_at lead at bs).end bs
+    pub ends : at + (lead + 1 + length name) ≡ (name_at lead at bs).end
+
+  pub named-turn : (n at : ℕ) (name : List ℕ) (rest : List (List ℕ)) → Laid lead n at bs → names_from lead n at bs ≡ name ∷ rest → Turn n at name rest
+  unfolding entries_from Laid
+  named-turn zero at name rest l h = let z : ◌≡◌ {A = ℕ} 0 1 = cc in absurd (omega arith)
+  named-turn (suc n) at name rest l h =
+      let q : suc n - 1 ≡ n = omega arith in
+      let e : part bs (name_at lead at bs) ≡ name = cc in
+      let f : names_from lead n (name_at lead at bs).end bs ≡ rest = cc in
+      record { more = omega arith; named = sym e; left = rw q (sym f); inside = l.1; laid = rw q l.2; ends = omega (arith, ap length e, name-long at l.1) }
+
+  pub names-end : (n at : ℕ) → names_from lead n at bs ≡ [] → n ≡ 0
+  names-end n at h = omega (arith, length-names n at, ap length h)

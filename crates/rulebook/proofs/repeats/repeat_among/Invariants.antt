@@ -1,7 +1,7 @@
 -- `rulebook::repeats::repeat_among`: the entries that are left repeat, after those that are done, what all of them repeat, and the index tells of
 -- those that are done.
-use Rattle.std.proofs.Common.{◌≡◌, [], ◌+◌, ◌-◌, ◌*◌, ◌≤◌, length}
-use Rattle.rulebook.specs.Book.{entries_from, place_after}
+use Rattle.std.proofs.Common.{◌≡◌, [], ◌+◌, ◌-◌, ◌*◌, ◌≤◌}
+use Rattle.rulebook.specs.Book.{Laid, names_from, entries_from, place_after}
 use Rattle.rulebook.specs.Check.{repeat_from}
 use Rattle.rulebook.specs.Index.{Indexed}
 use Rattle.rulebook.proofs.repeats.repeat_among.Given as goal
@@ -9,10 +9,12 @@ use Rattle.rulebook.proofs.repeats.repeat_among.Given as goal
 abbrev pub invariant-loop-number : goal.invariant-loop-number
 invariant-loop-number l =
     let e = l.entries in
-    let done = length l.yielded in
+    let done = l.number-iterator.count in
     (goal.iterator-loop-number).can_next l.number-iterator
     × (goal.iterator-loop-number).is_finite l.number-iterator
     × (done ≤ e.count)
+    × Laid e.lead (e.count - done) l.at l.book
+    × (l.number-iterator.iter ≡ names_from e.lead (e.count - done) l.at l.book)
     × (l.at ≡ place_after e.lead done e.first l.book)
     × (e.first ≤ l.at)
     × (l.at ≤ e.first + done * 257)
