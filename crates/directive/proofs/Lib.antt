@@ -3,7 +3,8 @@ pub mod Ends
 pub mod Agreeing
 pub mod Tallying
 pub mod Growing
-pub mod Keeping
 pub mod Long
 pub mod Naming
 pub mod Placing
+pub mod Positions
+pub mod Searching

@@ -2,7 +2,7 @@
 -- has no more blanks than other bytes. So what is said of the candidate that a buffer keeps holds of every candidate. Assumes nothing.
 use mathlib.Core.Path.{◌≡◌, refl, sym, ◌∙◌}
 use mathlib.Core.Bool.{Bool, true, false, cond, ◌&&◌, ◌||◌, true≢false}
-use Rattle.std.specs.Prelude.{None}
+use Rattle.std.specs.Prelude.{Some, None}
 use mathlib.Core.List.{List, [], ◌∷◌, ◌++◌}
 use Prim.Native.Nat.{ℕ, zero, suc, ◌+◌, ◌*◌, ◌<◌, ◌≤◌}
 use native.Mathlib.Omega.{arith}
@@ -15,10 +15,22 @@ use Rattle.ascii.proofs.Flags.{by_cases}
 use Rattle.ascii.proofs.Texts.{leading_le}
 use Rattle.rulebook.specs.Book.{Entry, Book, name_at, entries_from, header_of, book_of}
 use Rattle.rulebook.specs.Lookup.{comparison, entry_from}
-use Rattle.rulebook.proofs.Names.{same-lengths}
+use Rattle.rulebook.proofs.NameLaws.{same-lengths}
 use Rattle.directive.specs.Name.{compact, same_compact, entries_with, or_compact, entry_of, head_from, is_head, may_grow, extended}
-use Rattle.directive.specs.Steps.{fitting, entry_if, grows_if}
-use Rattle.directive.proofs.Keeping.{fitting-some, fitting-none}
+use Rattle.directive.specs.Steps.{fitting, kept_if}
+
+-- a candidate that does not fit is too long, and one that does is what it should be
+pub fits-none : (c grown : List ℕ) (b : Bool) → b ≡ false → kept_if b c ≡ fitting grown → 512 < length grown
+fits-none c grown b h k =
+    by_cases (leb (length grown) 512)
+    (λ m. let f = rw (h, m) at k in cc f)
+    (λ m. leb-false (length grown) 512 m)
+
+pub fits-some : (c grown : List ℕ) (b : Bool) → b ≡ true → kept_if b c ≡ fitting grown → c ≡ grown
+fits-some c grown b h k =
+    by_cases (leb (length grown) 512)
+    (λ m. let f = rw (h, m) at k in cc f)
+    (λ m. let f = rw (h, m) at k in cc f)
 
 -- a byte of a word is no blank
 word-solid : (x : ℕ) → is_word x ≡ true → is_space x ≡ false
@@ -128,7 +140,7 @@ module _ (book : Book) (c : List ℕ) (short : Short book.directives) (s : Space
   compact-far : 512 < length c → (a : List ℕ) → length a ≤ 255 → same_compact a c ≡ false
   compact-far l a h = same-lengths fold (compact a) (compact c) (omega (arith, compact-le a))
 
-  entry-long : 512 < length c → entry_of book c ≡ None
+  pub entry-long : 512 < length c → entry_of book c ≡ None
   unfolding entry_of
   entry-long l =
       rw (entry-far (comparison book) c (omega arith) 0 book.directives short, with-far same_compact c (compact-far l) 0 book.directives short) (go book.optional_blanks)
@@ -137,7 +149,7 @@ module _ (book : Book) (c : List ℕ) (short : Short book.directives) (s : Space
       go true = refl
       go false = refl
 
-  grows-long : 512 < length c → may_grow book c ≡ false
+  pub grows-long : 512 < length c → may_grow book c ≡ false
   unfolding may_grow
   grows-long l =
       rw (is-head-far (same_by (comparison book)) c (exactly-far l) book.directives short, is-head-far same_compact c (compact-far l) book.directives short) (go book.optional_blanks)
@@ -145,15 +157,3 @@ module _ (book : Book) (c : List ℕ) (short : Short book.directives) (s : Space
       go : (b : Bool) → (b && false) ≡ false
       go true = refl
       go false = refl
-
-  pub entry-fits : entry_if book (fitting c) ≡ entry_of book c
-  entry-fits =
-      by_cases (leb (length c) 512)
-      (λ e. rw (fitting-some c (leb-true (length c) 512 e)))
-      (λ e. let l = leb-false (length c) 512 e in rw (fitting-none c l, entry-long l))
-
-  pub grows-fits : grows_if book (fitting c) ≡ may_grow book c
-  grows-fits =
-      by_cases (leb (length c) 512)
-      (λ e. rw (fitting-some c (leb-true (length c) 512 e)))
-      (λ e. let l = leb-false (length c) 512 e in rw (fitting-none c l, grows-long l))

@@ -2,7 +2,7 @@
 -- where its last name does. Assumes nothing.
 use mathlib.Core.Path.{◌≡◌, refl}
 use mathlib.Core.Bool.{Bool, true, false, cond}
-use Rattle.std.specs.Prelude.{Option, Some, None}
+use Rattle.std.specs.Prelude.{Option, Some, None, Result, Ok, Err}
 use mathlib.Core.List.{List, [], ◌∷◌}
 use Prim.Native.Nat.{ℕ, zero, suc, ◌+◌, ◌<◌, ◌≤◌}
 use native.Mathlib.Omega.{arith}
@@ -10,10 +10,13 @@ use lib.ListN.{length, get_or}
 use Rattle.rulebook.specs.Book.{Entry, Book, name_at, entries_from, header_of, book_of}
 use Rattle.rulebook.specs.Lookup.{comparison, entry_from}
 use Rattle.rulebook.proofs.Appended.{entry_from-below}
-use Rattle.directive.specs.declared.NameAnswer.{NameAnswer}
-use Rattle.directive.specs.declared.NameAnswer.TheVariants.{Found, Refused}
-use Rattle.directive.specs.Name.{same_compact, entries_with, only, or_compact, entry_of, Candidate, latest, or_missing, named, name_gives}
-use Rattle.directive.specs.Steps.{Good, Placed}
+use Rattle.std.specs.Option.{ok_or}
+use Rattle.refusal.specs.declared.Reason.TheVariants.{NoDirective}
+use Rattle.refusal.specs.Answer.{told}
+use Rattle.refusal.specs.Verdict.{refusal_at}
+use Rattle.directive.specs.declared.Named.{Named}
+use Rattle.directive.specs.Name.{same_compact, entries_with, only, or_compact, entry_of, latest, or_missing}
+use Rattle.directive.specs.Steps.{Good, Ends}
 
 entries-length : (lead n at : ℕ) (bs : List ℕ) → length (entries_from lead n at bs) ≡ n
 unfolding entries_from
@@ -50,12 +53,12 @@ entry-below book c k h =
     go false None y p q e = p e
 
 -- "byte 7 directives (1 to 255)"
-few-directives : (bs : List ℕ) → get_or bs 7 0 < 256 → length (book_of bs).directives ≤ 255
+pub few-directives : (bs : List ℕ) → get_or bs 7 0 < 256 → length (book_of bs).directives ≤ 255
 unfolding book_of header_of
 few-directives bs h = omega (arith, entries-length 0 (get_or bs 7 0) 9 bs)
 
 -- a name that is remembered
-pub good-latest : (bs c : List ℕ) → get_or bs 7 0 < 256 → (start n end : ℕ) (before : Option Candidate) → start < end → end ≤ n → Good start n before
+pub good-latest : (bs c : List ℕ) → get_or bs 7 0 < 256 → (start n end : ℕ) (before : Option Named) → start < end → end ≤ n → Good start n before
     → Good start n (latest (entry_of (book_of bs) c) end before)
 good-latest bs c b start n end before l m g = go (entry_of (book_of bs) c) (entry-below (book_of bs) c)
   where
@@ -63,12 +66,11 @@ good-latest bs c b start n end before l m g = go (entry_of (book_of bs) c) (entr
     go None h = g
     go (Some i) h = (l, m, omega (arith, h i refl, few-directives bs b))
 
--- an answer that says what is remembered
-pub finished-placed : (from start n : ℕ) (f : Option Candidate) (r : NameAnswer) → name_gives r ≡ named start (or_missing from f) → from ≤ start → start ≤ n → Good start n f
-    → Placed from n r
-finished-placed from start n None (Found d) e l m g = let z : ◌≡◌ {A = ℕ} 0 1 = cc in absurd (omega arith)
-finished-placed from start n None (Refused x) e l m g = let q : x.place ≡ from = cc in (omega arith, omega arith)
-finished-placed from start n (Some f) (Found d) e l m g =
-    let q : d ≡ record { entry = f.entry; start = start; end = f.end } = cc in
-    rw q (l, g.0, g.1, g.2)
-finished-placed from start n (Some f) (Refused x) e l m g = let z : ◌≡◌ {A = ℕ} 0 1 = cc in absurd (omega arith)
+-- the answer of a search that is over
+pub finished : (from : ℕ) (f : Option Named) → told (ok_or f (refusal_at NoDirective from)) ≡ or_missing from f
+finished from None = refl
+finished from (Some f) = refl
+
+pub finished-ends : (from start n : ℕ) (f : Option Named) → from ≤ start → start ≤ n → Good start n f → Ends from start n (ok_or f (refusal_at NoDirective from))
+finished-ends from start n None l m g = (omega arith, omega arith)
+finished-ends from start n (Some f) l m g = g

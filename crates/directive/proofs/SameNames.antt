@@ -2,18 +2,18 @@
 -- Each look-up goes by names, so by induction over what is left of the text. Assumes nothing.
 use Prim.Native.Nat.{ℕ, zero, suc, ◌+◌}
 use mathlib.Core.Bool.{Bool}
-use Rattle.std.specs.Prelude.{Option}
+use Rattle.std.specs.Prelude.{Option, Result, Ok, Err}
 use mathlib.Core.Path.{◌≡◌, refl}
 use mathlib.Core.List.{List, [], ◌∷◌}
 use lib.ListN.{length}
 use Rattle.ascii.specs.Text.{same_by}
-use Rattle.lexer.specs.declared.Skipped.{Skipped}
-use Rattle.lexer.specs.declared.Skipped.TheVariants.{Past, OpenAt}
+use Rattle.refusal.specs.declared.Refusal.{Refusal}
 use Rattle.lexer.specs.Trivia.{skip}
 use Rattle.rulebook.specs.Book.{Entry, Book}
 use Rattle.rulebook.specs.Lookup.{comparison}
 use Rattle.rulebook.proofs.Appended.{named, names_of, entry_from-same}
-use Rattle.directive.specs.Name.{same_compact, entries_with, entry_of, is_head, may_grow, Candidate, word_of, name_from, name_at}
+use Rattle.directive.specs.declared.Named.{Named}
+use Rattle.directive.specs.Name.{same_compact, entries_with, entry_of, is_head, may_grow, word_of, name_from, name_at}
 use Rattle.directive.specs.Laws.{NamesGoByDirectives}
 
 entries_with-named : (p : List ℕ → Bool) (i : ℕ) (es : List Entry) → entries_with p i es ≡ entries_with p i (named (names_of es))
@@ -46,7 +46,7 @@ module _ (b d : Book) (case : b.ignores_case ≡ d.ignores_case) (blanks : b.opt
       let same = is_head-same b.directives d.directives names in
       rw (case, blanks, same (same_by (comparison d)) name, same same_compact name)
 
-  name_from-same : (text : List ℕ) (search : ℕ) (candidate : List ℕ) (found : Option Candidate) (k at : ℕ) (xs : List ℕ)
+  name_from-same : (text : List ℕ) (search : ℕ) (candidate : List ℕ) (found : Option Named) (k at : ℕ) (xs : List ℕ)
       → name_from b text search candidate found k at xs ≡ name_from d text search candidate found k at xs
   unfolding name_from
   name_from-same text search candidate found zero at [] = refl
@@ -55,16 +55,16 @@ module _ (b d : Book) (case : b.ignores_case ≡ d.ignores_case) (blanks : b.opt
   name_from-same text search candidate found zero at (x ∷ xs) =
       go (skip d.ignores_case text (at + length (word_of (x ∷ xs)))) refl (λ c f k i. name_from-same text search c f k i xs)
     where
-      go : (s : Skipped) → skip d.ignores_case text (at + length (word_of (x ∷ xs))) ≡ s
-          → ((c : List ℕ) (f : Option Candidate) (k i : ℕ) → name_from b text search c f k i xs ≡ name_from d text search c f k i xs)
+      go : (s : Result ℕ Refusal) → skip d.ignores_case text (at + length (word_of (x ∷ xs))) ≡ s
+          → ((c : List ℕ) (f : Option Named) (k i : ℕ) → name_from b text search c f k i xs ≡ name_from d text search c f k i xs)
           → name_from b text search candidate found zero at (x ∷ xs) ≡ name_from d text search candidate found zero at (x ∷ xs)
-      go (Past p) e ih = rw (case, e, entry_of-same, may_grow-same, ih)
-      go (OpenAt p) e ih = rw (case, e)
+      go (Ok p) e ih = rw (case, e, entry_of-same, may_grow-same, ih)
+      go (Err r) e ih = rw (case, e)
 
 pub names-go-by-directives : NamesGoByDirectives
 unfolding name_at
 names-go-by-directives b d case blanks names text at = go (skip d.ignores_case text at) refl
   where
-    go : (s : Skipped) → skip d.ignores_case text at ≡ s → name_at b text at ≡ name_at d text at
-    go (Past p) e = rw (name_at, case, e, name_from-same b d case blanks names)
-    go (OpenAt p) e = rw (name_at, case, e)
+    go : (s : Result ℕ Refusal) → skip d.ignores_case text at ≡ s → name_at b text at ≡ name_at d text at
+    go (Ok p) e = rw (name_at, case, e, name_from-same b d case blanks names)
+    go (Err r) e = rw (name_at, case, e)

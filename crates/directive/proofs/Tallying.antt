@@ -1,100 +1,130 @@
--- Laws of counting the entries that have a property, at a place of the book in the terms of a loop; and what a count says of the only one and of any.
--- Assumes nothing.
-use mathlib.Core.Path.{◌≡◌, refl}
-use mathlib.Core.Bool.{Bool, true, false, cond, ◌&&◌, ◌||◌}
-use Rattle.std.specs.Prelude.{Option, Some, None}
-use mathlib.Core.List.{List, [], ◌∷◌}
-use Prim.Native.Nat.{ℕ, suc, ◌+◌}
-use native.Mathlib.Numerals.{add-one}
-use Rattle.ascii.specs.declared.Range.{Range}
-use Rattle.ascii.specs.Text.{part, same_by, comparing}
+-- The names that a candidate agrees with, over the list of a book's names: the only one, by where the first stands and whether another follows it; and
+-- any of them. By induction over the names. Assumes nothing.
+use Rattle.std.proofs.Common.{ℕ, suc, ◌+◌, ◌≡◌, refl, Bool, true, false, cond, ◌&&◌, ◌||◌, List, [], ◌∷◌, ◌++◌, map, length, ap, ◌∙◌, arith}
+use Rattle.std.specs.Prelude.{Option, Some, None, is_some}
+use Rattle.std.specs.List.{list_any}
+use Rattle.ascii.specs.Text.{same_by, comparing}
 use Rattle.rulebook.specs.declared.Header.{Header}
-use Rattle.rulebook.specs.Book.{Entry, name_at, entries_from, entries_in, header_of, book_of}
-use Rattle.rulebook.specs.Lookup.{find_from}
-use Rattle.rulebook.proofs.Finding.{index_of, index-found}
-use Rattle.directive.specs.declared.Tally.{Tally}
-use Rattle.directive.specs.declared.Tally.TheVariants.{Never, Once, Often}
-use Rattle.directive.specs.Name.{same_compact, entries_with, only, or_compact, entry_of, head_from, is_head, may_grow}
-use Rattle.directive.specs.Steps.{counted, tally_from, any_from}
+use Rattle.rulebook.specs.Book.{Entry, Book, header_of, book_of}
+use Rattle.rulebook.specs.Lookup.{comparison, entry_from}
+use Rattle.directive.specs.Name.{same_compact, entries_with, only, entry_of, head_from, is_head, may_grow}
 
--- the only one
-abbrev pub only_of : Tally → Option ℕ
-only_of Never = None
-only_of (Once i) = Some i
-only_of Often = None
+abbrev pub names_of : List Entry → List (List ℕ)
+names_of es = map (λ e. e.name) es
+
+pub length-names : (es : List Entry) → length (names_of es) ≡ length es
+length-names [] = refl
+length-names (e ∷ es) = rw (length-names es)
 
 module _ (p : List ℕ → Bool) where
-  -- n entries, m + 1 of them, of which the first one's name has the range r
-  module _ (lead : ℕ) (bs : List ℕ) where
-    pub tally-next : (t : Tally) (i n m at : ℕ) (r : Range) → n ≡ m + 1 → r ≡ name_at lead at bs
-        → tally_from p t i (entries_from lead n at bs) ≡ tally_from p (counted t (p (part bs r)) i) (i + 1) (entries_from lead m r.end bs)
-    unfolding tally_from entries_from
-    tally-next t i n m at r e q = rw (e, add-one m, add-one i, q)
+  -- the places of the names with the property, counted from i
+  unfoldable places : ℕ → List (List ℕ) → List ℕ
+  places i [] = []
+  places i (n ∷ ns) = cond (p n) (i ∷ places (suc i) ns) (places (suc i) ns)
 
-    pub tally-none : (t : Tally) (i n at : ℕ) → n ≡ 0 → tally_from p t i (entries_from lead n at bs) ≡ t
-    unfolding tally_from entries_from
-    tally-none t i n at e = rw e
+  entries-places : (i : ℕ) (es : List Entry) → entries_with p i es ≡ places i (names_of es)
+  unfolding entries_with places
+  entries-places i [] = refl
+  entries-places i (e ∷ es) = rw (entries-places (suc i) es)
 
-  -- the same of any
-  module _ (lead : ℕ) (bs : List ℕ) where
-    pub any_next : (n m at : ℕ) (r : Range) → n ≡ m + 1 → r ≡ name_at lead at bs
-        → any_from p (entries_from lead n at bs) ≡ (p (part bs r) || any_from p (entries_from lead m r.end bs))
-    unfolding any_from entries_from
-    any_next n m at r e q = rw (e, add-one m, q)
-
-    pub any_none : (n at : ℕ) → n ≡ 0 → any_from p (entries_from lead n at bs) ≡ false
-    unfolding any_from entries_from
-    any_none n at e = rw e
-
-  tally-often : (i : ℕ) (es : List Entry) → tally_from p Often i es ≡ Often
-  unfolding tally_from
-  tally-often i [] = refl
-  tally-often i (e ∷ es) = rw (same (p e.name)) (tally-often (suc i) es)
+  places-none : (i : ℕ) (ns : List (List ℕ)) → list_any p ns ≡ false → places i ns ≡ []
+  unfolding places
+  places-none i [] e = refl
+  places-none i (n ∷ ns) e = go (p n) (places-none (suc i) ns) e
     where
-      same : (b : Bool) → counted Often b i ≡ Often
-      same true = refl
-      same false = refl
+      go : (b : Bool) → (list_any p ns ≡ false → places (suc i) ns ≡ []) → (b || list_any p ns) ≡ false
+          → cond b (i ∷ places (suc i) ns) (places (suc i) ns) ≡ []
+      go true ih e = cc
+      go false ih e = ih e
 
-  tally-once : (k i : ℕ) (es : List Entry) → only_of (tally_from p (Once k) i es) ≡ only (k ∷ entries_with p i es)
-  unfolding tally_from entries_with
-  tally-once k i [] = refl
-  tally-once k i (e ∷ es) = go (p e.name) (tally-once k (suc i) es)
+  places-some : (k i : ℕ) (ns : List (List ℕ)) → list_any p ns ≡ true → only (k ∷ places i ns) ≡ None
+  unfolding places
+  places-some k i [] e = cc
+  places-some k i (n ∷ ns) e = go (p n) (places-some k (suc i) ns) e
     where
-      go : (b : Bool) → only_of (tally_from p (Once k) (suc i) es) ≡ only (k ∷ entries_with p (suc i) es)
-          → only_of (tally_from p (counted (Once k) b i) (suc i) es) ≡ only (k ∷ cond b (i ∷ entries_with p (suc i) es) (entries_with p (suc i) es))
-      go true ih = rw (tally-often (suc i) es)
-      go false ih = ih
+      go : (b : Bool) → (list_any p ns ≡ true → only (k ∷ places (suc i) ns) ≡ None) → (b || list_any p ns) ≡ true
+          → only (k ∷ cond b (i ∷ places (suc i) ns) (places (suc i) ns)) ≡ None
+      go true ih e = refl
+      go false ih e = ih e
 
-  pub tally-only : (i : ℕ) (es : List Entry) → only_of (tally_from p Never i es) ≡ only (entries_with p i es)
-  unfolding tally_from entries_with
-  tally-only i [] = refl
-  tally-only i (e ∷ es) = go (p e.name) (tally-only (suc i) es)
+  only-after : (b : Bool) (k i : ℕ) (ns : List (List ℕ)) → list_any p ns ≡ b → only (k ∷ places i ns) ≡ cond b None (Some k)
+  only-after true k i ns e = places-some k i ns e
+  only-after false k i ns e = rw (places-none i ns e)
+
+  only-from : (i : ℕ) (before : List (List ℕ)) (n : List ℕ) (after : List (List ℕ)) → list_any p before ≡ false → p n ≡ true
+      → only (places i (before ++ (n ∷ after))) ≡ cond (list_any p after) None (Some (i + length before))
+  unfolding places
+  only-from i [] n after e h =
+      let z : i + 0 ≡ i = omega arith in
+      rw (h, z) (only-after (list_any p after) i (suc i) after refl)
+  only-from i (m ∷ ms) n after e h = go (p m) (λ z. only-from (suc i) ms n after z h) e
     where
-      go : (b : Bool) → only_of (tally_from p Never (suc i) es) ≡ only (entries_with p (suc i) es)
-          → only_of (tally_from p (counted Never b i) (suc i) es) ≡ only (cond b (i ∷ entries_with p (suc i) es) (entries_with p (suc i) es))
-      go true ih = tally-once i (suc i) es
-      go false ih = ih
+      go : (b : Bool) → (list_any p ms ≡ false → only (places (suc i) (ms ++ (n ∷ after))) ≡ cond (list_any p after) None (Some (suc i + length ms)))
+          → (b || list_any p ms) ≡ false
+          → only (cond b (i ∷ places (suc i) (ms ++ (n ∷ after))) (places (suc i) (ms ++ (n ∷ after)))) ≡ cond (list_any p after) None (Some (i + suc (length ms)))
+      go true ih e = cc
+      go false ih e =
+          let z : suc i + length ms ≡ i + suc (length ms) = omega arith in
+          rw (← z) (ih e)
+
+  -- none has the property
+  pub only-none : (es : List Entry) → list_any p (names_of es) ≡ false → only (entries_with p 0 es) ≡ None
+  only-none es e = rw (entries-places 0 es, places-none 0 (names_of es) e)
+
+  -- the first that has it, and those after it
+  pub only-first : (es : List Entry) (before : List (List ℕ)) (n : List ℕ) (after : List (List ℕ)) → names_of es ≡ before ++ (n ∷ after)
+      → list_any p before ≡ false → p n ≡ true → only (entries_with p 0 es) ≡ cond (list_any p after) None (Some (length before))
+  only-first es before n after s e h =
+      let z : 0 + length before ≡ length before = omega arith in
+      rw (entries-places 0 es, s) (only-from 0 before n after e h ∙ ap (λ (k : ℕ). cond (list_any p after) None (Some k)) z)
 
 -- any: a beginning of one of the names
-any_head : (same : List ℕ → List ℕ → Bool) (c : List ℕ) (es : List Entry) → is_head same c es ≡ any_from (λ n. head_from same [] n c) es
-unfolding any_from is_head
+pub any_head : (same : List ℕ → List ℕ → Bool) (c : List ℕ) (es : List Entry) → is_head same c es ≡ list_any (λ n. head_from same [] n c) (names_of es)
+unfolding is_head
 any_head same c [] = refl
 any_head same c (e ∷ es) = rw (any_head same c es)
 
 -- the questions that a book answers, in these terms
-module _ (header : Header) (bs c : List ℕ) (e : header ≡ header_of bs) where
-  pub entry-tallied :
-      entry_of (book_of bs) c
-      ≡ or_compact header.optional_blanks (index_of (find_from (comparing header.ignores_case) 0 c (entries_in header.directives bs)))
-      (only_of (tally_from (λ n. same_compact n c) Never 0 (entries_in header.directives bs)))
-  unfolding entry_of book_of
-  entry-tallied =
-      rw (e, index-found (comparing (header_of bs).ignores_case) 0 c (entries_in (header_of bs).directives bs), ← tally-only (λ n. same_compact n c) 0 (entries_in (header_of bs).directives bs))
+module _ (book : Book) (c : List ℕ) (r : Option ℕ) (e : r ≡ entry_from (comparison book) 0 c book.directives) where
+  pub entry-named : is_some r ≡ true → r ≡ entry_of book c
+  unfolding entry_of
+  entry-named h = go r h e
+    where
+      go : (o : Option ℕ) → is_some o ≡ true → o ≡ entry_from (comparison book) 0 c book.directives → o ≡ entry_of book c
+      go (Some i) h q = rw (← q)
+      go None h q = cc
 
-  pub grow-any :
-      may_grow (book_of bs) c
-      ≡ (any_from (λ n. head_from (same_by (comparing header.ignores_case)) [] n c) (entries_in header.directives bs)
-      || (header.optional_blanks && any_from (λ n. head_from same_compact [] n c) (entries_in header.directives bs)))
-  unfolding may_grow book_of
-  grow-any =
-      rw (e, any_head (same_by (comparing (header_of bs).ignores_case)) c (entries_in (header_of bs).directives bs), any_head same_compact c (entries_in (header_of bs).directives bs))
+  pub entry-strict : is_some r ≡ false → book.optional_blanks ≡ false → r ≡ entry_of book c
+  unfolding entry_of
+  entry-strict h b = go r h e
+    where
+      go : (o : Option ℕ) → is_some o ≡ false → o ≡ entry_from (comparison book) 0 c book.directives → o ≡ entry_of book c
+      go (Some i) h q = cc
+      go None h q = rw (← q, b)
+
+  pub entry-else : is_some r ≡ false → book.optional_blanks ≡ true → only (entries_with (λ n. same_compact n c) 0 book.directives) ≡ entry_of book c
+  unfolding entry_of
+  entry-else h b = go r h e
+    where
+      go : (o : Option ℕ) → is_some o ≡ false → o ≡ entry_from (comparison book) 0 c book.directives
+          → only (entries_with (λ n. same_compact n c) 0 book.directives) ≡ entry_of book c
+      go (Some i) h q = cc
+      go None h q = rw (← q, b)
+
+pub grow-any : (book : Book) (c : List ℕ) (b o : Bool) → book.ignores_case ≡ b → book.optional_blanks ≡ o
+    → may_grow book c
+    ≡ (list_any (λ n. head_from (same_by (comparing b)) [] n c) (names_of book.directives)
+    || (o && list_any (λ n. head_from same_compact [] n c) (names_of book.directives)))
+unfolding may_grow
+grow-any book c b o e f =
+    rw (any_head (same_by (comparison book)) c book.directives, any_head same_compact c book.directives, e, f)
+
+-- what a header says is what its book says
+module _ (header : Header) (bs : List ℕ) (e : header ≡ header_of bs) where
+  pub case-of : (book_of bs).ignores_case ≡ header.ignores_case
+  unfolding book_of
+  case-of = rw e
+
+  pub blanks-of : (book_of bs).optional_blanks ≡ header.optional_blanks
+  unfolding book_of
+  blanks-of = rw e

@@ -1,16 +1,19 @@
 -- The steps of the search for a name: a candidate in a buffer, its comparison with a name, the entries that it agrees with, and what follows a word.
-use Rattle.std.specs.Prelude.{ℕ, suc, ◌+◌, ◌≤◌, ◌<◌, Bool, true, false, cond, ◌&&◌, ◌||◌, List, [], ◌∷◌, length, take, drop, leb}
+use Rattle.std.specs.Prelude.{ℕ, ◌+◌, ◌≤◌, ◌<◌, Bool, true, false, cond, ◌&&◌, List, [], ◌∷◌, length, drop, get_or, leb}
 use Rattle.std.specs.Prelude.{Option, Some, None, Result, Ok, Err}
-use denote.Ref.{Bor}
 use Rattle.ascii.specs.Ascii.{is_space}
 use Rattle.ascii.specs.Text.{leading, same_by, comparing}
 use Rattle.refusal.specs.declared.Refusal.{Refusal}
 use Rattle.lexer.specs.Trivia.{skip}
-use Rattle.rulebook.specs.Book.{Entry, Book}
+use Rattle.rulebook.specs.Book.{Book}
 use Rattle.directive.specs.declared.Comparison.{Comparison}
 use Rattle.directive.specs.declared.DirectiveName.{DirectiveName}
 use Rattle.directive.specs.declared.Named.{Named}
-use Rattle.directive.specs.Name.{same_compact, head_from, entry_of, may_grow, starts_word}
+use Rattle.directive.specs.Name.{same_compact, head_from, may_grow, starts_word}
+
+-- numbers that are bytes
+abbrev pub AreBytes : List ℕ → Type 0
+AreBytes bs = (i : ℕ) → get_or bs i 0 < 256
 
 -- a text from a place on, past the blanks that a compact comparison does not see
 abbrev pub solid_from : Bool → List ℕ → ℕ → ℕ
@@ -30,11 +33,6 @@ agreed false compact ignore_case name candidate = same_in compact ignore_case na
 abbrev pub agrees_in : Comparison → List ℕ → List ℕ → Bool
 agrees_in how name candidate = agreed how.heads how.compact how.ignore_case name candidate
 
--- any of the entries has a property
-unfoldable pub any_from : (List ℕ → Bool) → List Entry → Bool
-any_from p [] = false
-any_from p (e ∷ es) = p e.name || any_from p es
-
 -- a candidate of at most 512 bytes
 abbrev pub fitting : List ℕ → Option (List ℕ)
 fitting c = cond (leb (length c) 512) (Some c) None
@@ -44,27 +42,14 @@ abbrev pub kept_if : Bool → List ℕ → Option (List ℕ)
 kept_if true c = Some c
 kept_if false c = None
 
-abbrev pub lent : Option (Bor (List ℕ)) → Option (List ℕ)
-lent None = None
-lent (Some c) = Some c.now
-
--- a longer one is no name of a book, and no name begins with it
-abbrev pub entry_if : Book → Option (List ℕ) → Option ℕ
-entry_if book None = None
-entry_if book (Some c) = entry_of book c
-
-abbrev pub grows_if : Book → Option (List ℕ) → Bool
-grows_if book None = false
-grows_if book (Some c) = may_grow book c
-
 -- what follows a word that ends at a place: trivia first, then another word that may belong to the name, or nothing that does
 abbrev pub behind : (ℕ → Option ℕ) → Result ℕ Refusal → Result (Option ℕ) Refusal
 behind f (Err r) = Err r
 behind f (Ok p) = Ok (f p)
 
-unfoldable pub next_if : Book → List ℕ → ℕ → Option (List ℕ) → Result (Option ℕ) Refusal
-next_if book text end kept =
-    behind (λ p. cond (starts_word (drop p text) && grows_if book kept) (Some p) None) (skip book.ignores_case text end)
+unfoldable pub next_of : Book → List ℕ → ℕ → List ℕ → Result (Option ℕ) Refusal
+next_of book text end candidate =
+    behind (λ p. cond (starts_word (drop p text) && may_grow book candidate) (Some p) None) (skip book.ignores_case text end)
 
 -- the place of what follows is not before a place, and not past n bytes
 abbrev pub Ahead : ℕ → ℕ → Result (Option ℕ) Refusal → Type 0

@@ -8,8 +8,8 @@ ghost use Rattle.std.specs.Prelude.{◌≡◌, [], ◌≤◌, length, drop, get_
 ghost use Rattle.ascii.specs.Ascii.{is_word};
 ghost use Rattle.refusal.specs.Answer.{told};
 ghost use Rattle.rulebook.specs.Book.{book_of};
-ghost use Rattle.directive.specs.Name.{name_from, name_at};
-ghost use Rattle.directive.specs.Steps.{lent, entry_if, next_if, Ahead, Ends, Placed};
+ghost use Rattle.directive.specs.Name.{entry_of, name_from, name_at};
+ghost use Rattle.directive.specs.Steps.{next_of, Ahead, Ends, Placed};
 
 use ascii::class::is_word;
 use ascii::sets::Word;
@@ -50,34 +50,24 @@ fn starts_word(text: &[u8], at: usize) -> bool
     is_word(byte_at(text, at))
 }
 
-// The entry of a candidate, if it is not too long to have one.
-fn kept_entry(book: &CheckedBook, kept: Option<&[u8]>) -> Option<usize>
-    ensures { result ≡ entry_if (book_of book.now.bytes.now) (lent kept) }
-{
-    names::entry_of(book, kept?)
-}
-
 // Where another word of a candidate stands, whose last one ends at a place and which has this entry. Trivia comes first, before anything is decided.
 fn next_word(
     book: &CheckedBook,
     text: &[u8],
     end: usize,
-    kept: Option<&[u8]>,
+    candidate: &[u8],
     entry: Option<usize>,
 ) -> Result<Option<usize>, Refusal>
     requires end_in_bounds { end ≤ length text.now }
-    requires value { entry ≡ entry_if (book_of book.now.bytes.now) (lent kept) }
-    ensures value_2 { result ≡ next_if (book_of book.now.bytes.now) text.now end (lent kept) }
+    requires value { entry ≡ entry_of (book_of book.now.bytes.now) candidate.now }
+    ensures value_2 { result ≡ next_of (book_of book.now.bytes.now) text.now end candidate.now }
     ensures ahead { Ahead end (length text.now) result }
 {
     let place = skip(text, end, book.header.ignores_case)?;
-    match kept {
-        Some(candidate)
-            if starts_word(text, place) && names::may_grow(book, candidate, entry) =>
-        {
-            Ok(Some(place))
-        }
-        _ => Ok(None),
+    if starts_word(text, place) && names::may_grow(book, candidate, entry) {
+        Ok(Some(place))
+    } else {
+        Ok(None)
     }
 }
 
@@ -88,27 +78,26 @@ fn search(book: &CheckedBook, text: &[u8], from: usize, start: usize) -> Result<
     ensures result_value { told result ≡ name_from (book_of book.now.bytes.now) text.now from [] None 0 start (drop start text.now) }
     ensures ends { Ends from start (length text.now) result }
 {
-    let mut place = start;
+    names::fit(book.bytes);
     let mut candidate = Candidate::new();
     let mut found = None;
+    let mut place = start;
     while starts_word(text, place) {
         let end = run_end::<Word>(text, place);
-        let kept = if candidate.push_word(&text[place..end]) {
-            Some(candidate.as_slice())
-        } else {
-            None
-        };
-        let entry = kept_entry(book, kept);
+        if !candidate.push_word(&text[place..end]) {
+            // it is no name and begins none, but trivia is passed before anything is decided
+            skip(text, end, book.header.ignores_case)?;
+            break;
+        }
+        let entry = names::entry_of(book, candidate.as_slice());
         if let Some(entry) = entry {
             found = Some(Named { entry, end });
         }
-        match next_word(book, text, end, kept, entry)? {
+        match next_word(book, text, end, candidate.as_slice(), entry)? {
             Some(next) => {
                 place = next;
             }
-            None => {
-                return found.ok_or(Reason::NoDirective.at(from));
-            }
+            None => break,
         }
     }
     found.ok_or(Reason::NoDirective.at(from))

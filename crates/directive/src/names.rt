@@ -1,8 +1,9 @@
 // Comparing a candidate with the names of a book.
-ghost use Rattle.std.specs.Prelude.{◌≡◌, ◌≤◌, length};
+ghost use Rattle.std.specs.Prelude.{◌≡◌, ◌≤◌, length, map};
+ghost use Rattle.std.specs.List.{list_any};
 ghost use Rattle.rulebook.specs.Book.{book_of};
 ghost use Rattle.directive.specs.Name.{entries_with, only, entry_of, may_grow};
-ghost use Rattle.directive.specs.Steps.{solid_from, agrees_in, any_from};
+ghost use Rattle.directive.specs.Steps.{AreBytes, solid_from, agrees_in};
 
 use crate::Comparison;
 use ascii::class::is_space;
@@ -23,23 +24,30 @@ fn solid_from(text: &[u8], at: usize, compact: bool) -> usize
     }
 }
 
+// A byte is below 256. The type says so of a slice that a function is lent, and this hands it on for one that a struct holds.
+pub fn fit(bytes: &[u8])
+    ensures { AreBytes bytes.now }
+{
+}
+
 // Whether a candidate agrees with a name: byte by byte through the name, with the next byte of the candidate that counts.
 fn agrees(name: &[u8], candidate: &[u8], how: Comparison) -> bool
     ensures { result ≡ agrees_in how name.now candidate.now }
 {
-    let ignore_case = how.ignore_case || how.compact;
+    let ignore_case = how.ignore_case | how.compact;
     let mut j = solid_from(candidate, 0, how.compact);
     for x in name {
         let used = j == candidate.len();
-        if how.heads && *x == 32 && used {
+        if how.heads & ((*x == 32) & used) {
             return true;
         }
-        if !(how.compact && is_space(*x)) {
-            if used || !same_byte(*x, candidate[j], ignore_case) {
-                return false;
-            }
-            j = solid_from(candidate, j + 1, how.compact);
+        if how.compact & is_space(*x) {
+            continue;
         }
+        if used || !same_byte(*x, candidate[j], ignore_case) {
+            return false;
+        }
+        j = solid_from(candidate, j + 1, how.compact);
     }
     j == candidate.len()
 }
@@ -48,21 +56,16 @@ fn agrees(name: &[u8], candidate: &[u8], how: Comparison) -> bool
 fn only_agreeing(book: &CheckedBook, candidate: &[u8], how: Comparison) -> Option<usize>
     ensures { result ≡ only (entries_with (λ n. agrees_in how n candidate.now) 0 (book_of book.now.bytes.now).directives) }
 {
-    let mut seen = None;
-    for (i, name) in book.directive_names().enumerate() {
-        if agrees(name, candidate, how) {
-            if seen.is_some() {
-                return None;
-            }
-            seen = Some(i);
-        }
-    }
-    seen
+    fit(book.bytes);
+    let mut names = book.directive_names();
+    let first = names.position(|name| agrees(name, candidate, how))?;
+    let again = names.any(|name| agrees(name, candidate, how));
+    if again { None } else { Some(first) }
 }
 
 // Whether a candidate agrees with any directive's name.
 fn any_agrees(book: &CheckedBook, candidate: &[u8], how: Comparison) -> bool
-    ensures { result ≡ any_from (λ n. agrees_in how n candidate.now) (book_of book.now.bytes.now).directives }
+    ensures { result ≡ list_any (λ n. agrees_in how n candidate.now) (map (λ e. e.name) (book_of book.now.bytes.now).directives) }
 {
     book.directive_names()
         .any(|name| agrees(name, candidate, how))
