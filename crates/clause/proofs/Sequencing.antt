@@ -1,7 +1,7 @@
 -- Iterating the step gives the sequence that the definitions give: its answer, and its records.
 -- One step takes one clause off what is read from a state on; the whole is by induction on the number of slots.
 use Prim.Native.Nat.{ℕ, zero, suc, ◌+◌, ◌-◌, ◌≤◌, ◌<◌}
-use mathlib.Core.Bool.{Bool, true, false, cond, ◌&&◌}
+use mathlib.Core.Bool.{Bool, true, false, cond, ◌&&◌, true≢false}
 use mathlib.Core.Path.{◌≡◌, refl, sym, ap, subst, ◌∙◌}
 use mathlib.Core.List.{List, [], ◌∷◌}
 use native.Mathlib.Omega.{arith}
@@ -9,7 +9,7 @@ use lib.ListN.{length, drop, replicate, length-drop}
 use lib.Seq.{drop-drop}
 use lib.Dec.{eqb}
 use borrow.Author.Tests.{eqb-true, eqb-false}
-use Rattle.std.specs.Prelude.{Result, Ok, Err}
+use Rattle.std.specs.Prelude.{Result, Ok, Err, is_err}
 use Rattle.ascii.specs.Text.{padded}
 use Rattle.refusal.specs.declared.Refusal.{Refusal}
 use Rattle.refusal.specs.Table.{number_of}
@@ -169,6 +169,14 @@ when-going (Refused r) P h = tt
 abbrev pub left_by : Result SequenceEnd Refusal → List ClauseRecord → List ClauseRecord
 left_by (Ok e) rs = rs
 left_by (Err r) rs = replicate (length rs) zero_record
+
+pub left-err : (r : Result SequenceEnd Refusal) (rs us : List ClauseRecord) → is_err r ≡ true → us ≡ replicate (length rs) zero_record → us ≡ left_by r rs
+left-err (Ok e) rs us h g = absurd (true≢false (sym h))
+left-err (Err r) rs us h g = g
+
+pub left-ok : (r : Result SequenceEnd Refusal) (rs : List ClauseRecord) → is_err r ≡ false → rs ≡ left_by r rs
+left-ok (Ok e) rs h = refl
+left-ok (Err r) rs h = absurd (true≢false h)
 
 settle : (last : SequenceState) (rs : List ClauseRecord) (n : ℕ) (x : Answer Sequence) → length rs ≡ n → Fulfils last rs n 0 x → (r : Result SequenceEnd Refusal) (us : List ClauseRecord)
     → r ≡ answer_of last → us ≡ left_by r rs → ◌≡◌ {A = SequenceCall} (record { answer = told r; records = us }) (settled n x)

@@ -1,21 +1,26 @@
 -- The start of a reading: it is a start for as many slots, and what is read from it is what the definitions give, that of the call behind the checks before it.
 -- By cases on the trivia.
 use Prim.Native.Nat.{ℕ, ◌≤◌}
-use Rattle.std.specs.Prelude.{None, Result, Ok, Err}
-use mathlib.Core.Path.{◌≡◌, refl, ap}
+use Rattle.std.specs.Prelude.{Some, None, Result, Ok, Err, MatchResult}
+use mathlib.Core.Path.{◌≡◌, ◌∙◌, refl, sym, ap}
 use mathlib.Core.List.{List}
 use native.Mathlib.Omega.{arith}
-use lib.ListN.{length}
+use lib.ListN.{length, replicate}
 use Rattle.refusal.specs.declared.Refusal.{Refusal}
-use Rattle.refusal.specs.Answer.{max_length}
-use Rattle.refusal.specs.Verdict.{text_verdict, fine}
-use Rattle.refusal.proofs.Admission.{admits-fine, admits-length}
+use Rattle.refusal.specs.declared.Reason.TheVariants.{WrongBook}
+use Rattle.refusal.specs.Answer.{Answer, given, refused_by, and_then, unless_fault, admitted, max_length}
+use Rattle.refusal.specs.Verdict.{text_verdict, fine, refusal_at}
+use Rattle.refusal.proofs.Admission.{admits-fine, admits-bad}
 use Rattle.lexer.specs.Trivia.{skip}
 use Rattle.lexer.proofs.Bounds.{skip-bounds}
 use Rattle.rulebook.specs.Book.{book_of}
 use Rattle.rulebook.specs.Check.{book_fault}
-use Rattle.clause.specs.Sequence.{sequence_at}
-use Rattle.clause.specs.Calls.{SequenceCall, sequence_call}
+use Rattle.rulebook.specs.declared.CheckedBook.{CheckedBook}
+use Rattle.clause.specs.declared.ClauseRecord.{ClauseRecord}
+use Rattle.clause.specs.declared.SequenceEnd.{SequenceEnd}
+use Rattle.clause.specs.Clause.{zero_record}
+use Rattle.clause.specs.Sequence.{Sequence, sequence_at}
+use Rattle.clause.specs.Calls.{SequenceCall, counted, sequence_call, Admits, Judged}
 use Rattle.clause.proofs.Cleanness.{clean_end}
 use Rattle.clause.specs.Steps.{Started, begun_at, start_at, read_on, settled, sequence_into}
 
@@ -47,12 +52,41 @@ module _ (bk t : List ℕ) (left at : ℕ) where
   unfolding start_at
   reads_at = begun-reads (skip (book_of bk).ignores_case t at) refl
 
--- what is read behind the checks of text and book is what the call gives
-pub into-is : (bk t : List ℕ) (left size : ℕ) → text_verdict t ≡ fine → book_fault bk ≡ None → settled size (read_on bk t (start_at bk t left 0)) ≡ sequence_into bk t left size
-unfolding sequence_into
-into-is bk t left size e v = rw (admits-fine t _ e, v) (ap (settled size) (reads_at bk t left 0))
+-- the checks before it: the text's, and then the book's
+wrong-book : (bk t : List ℕ) (r : Refusal) {A : Type 0} (a : Answer A) → text_verdict t ≡ fine → r ≡ refusal_at WrongBook r.place → book_fault bk ≡ Some r.place
+    → admitted t (unless_fault 4 (book_fault bk) a) ≡ refused_by r
+wrong-book bk t r a v e f = admits-fine t _ v ∙ rw f (ap refused_by (sym e))
+
+pub checked-admits : (bk t : List ℕ) (r : Result CheckedBook Refusal) → text_verdict t ≡ fine → Judged bk r → Admits bk t r
+checked-admits bk t (Ok b) v h = (h, v)
+checked-admits bk t (Err r) v h = λ a. wrong-book bk t r a v h.0 h.1
+
+-- what is read behind them is what the call gives
+module _ (bk t : List ℕ) (left size : ℕ) where
+  pub into-is : text_verdict t ≡ fine → book_fault bk ≡ None → settled size (read_on bk t (start_at bk t left 0)) ≡ sequence_into bk t left size
+  unfolding sequence_into
+  into-is e v = rw (admits-fine t _ e, v) (ap (settled size) (reads_at bk t left 0))
+
+  pub refused-is : (r : Refusal) (us : List ClauseRecord) → ((a : Answer Sequence) → admitted t (unless_fault 4 (book_fault bk) a) ≡ refused_by r) → us ≡ replicate size zero_record
+      → ◌≡◌ {A = SequenceCall} (record { answer = refused_by r; records = us }) (sequence_into bk t left size)
+  unfolding sequence_into
+  refused-is r us h e = rw (h (sequence_at (book_of bk) t left 0), e) refl
 
 -- a call in which every slot is used
 pub call-is : (bk t : List ℕ) (size : ℕ) → sequence_into bk t size size ≡ sequence_call bk t size
 unfolding sequence_into sequence_call
 call-is bk t size = refl
+
+-- its answer alone
+module _ (bk t : List ℕ) (size : ℕ) where
+  pub answer-read : text_verdict t ≡ fine → book_fault bk ≡ None → and_then (read_on bk t (start_at bk t size 0)) (λ s. given (counted s)) ≡ (sequence_call bk t size).answer
+  answer-read e v = ap (λ (c : SequenceCall). c.answer) (into-is bk t size size e v ∙ call-is bk t size)
+
+  pub answer-refused : (r : Refusal) → text_verdict t ≡ Err r → ◌≡◌ {A = Answer SequenceEnd} (refused_by r) (sequence_call bk t size).answer
+  unfolding sequence_call
+  answer-refused r e = rw (admits-bad t (unless_fault 4 (book_fault bk) (sequence_at (book_of bk) t size 0)) r e) refl
+
+  pub answer-wrong : (r : Refusal) → text_verdict t ≡ fine → r ≡ refusal_at WrongBook r.place → book_fault bk ≡ Some r.place
+      → ◌≡◌ {A = Answer SequenceEnd} (refused_by r) (sequence_call bk t size).answer
+  unfolding sequence_call
+  answer-wrong r v e f = rw (wrong-book bk t r (sequence_at (book_of bk) t size 0) v e f) refl

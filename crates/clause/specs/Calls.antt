@@ -1,5 +1,5 @@
 -- What the clause sequence call gives: the number of records and the rest, and every record slot as the call leaves it.
-use Rattle.std.specs.Prelude.{ℕ, ◌≡◌, List, length, Some, Result, Ok, Err}
+use Rattle.std.specs.Prelude.{ℕ, ◌≡◌, List, length, Some, Result, Ok, Err, MatchResult}
 use Rattle.ascii.specs.Text.{first_high}
 use Rattle.refusal.specs.declared.Reason.TheVariants.{WrongBook}
 use Rattle.refusal.specs.declared.Refusal.{Refusal}
@@ -34,5 +34,4 @@ Admits book text (Err r) = (a : Answer Sequence) → admitted text (unless_fault
 
 -- a book as its check leaves it: valid, or refused by row 4
 abbrev pub Judged : List ℕ → Result CheckedBook Refusal → Type 0
-Judged book (Ok b) = b.bytes.now ≡ book
-Judged book (Err r) = (p : ℕ) × (book_fault book ≡ Some p) × (r ≡ refusal_at WrongBook p)
+Judged book result = MatchResult result (λ b. b.bytes.now ≡ book) (λ r. (r ≡ refusal_at WrongBook r.place) × (book_fault book ≡ Some r.place))

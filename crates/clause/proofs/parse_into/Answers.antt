@@ -1,0 +1,25 @@
+-- `parse_into` meets its contract: behind the checks the clauses from the start of the text on, and else every slot zeroed.
+use Rattle.std.proofs.Common.{◌∙◌, ap, arith, length}
+use Rattle.refusal.proofs.Admission.{admits-length}
+use Rattle.clause.specs.Steps.{read_on, settled, sequence_into}
+use Rattle.clause.proofs.Starting.{started-more, into-is, refused-is}
+use Rattle.clause.proofs.parse_into.Goals as goal
+
+pub read_from-requires : goal.read_from-requires
+read_from-requires c =
+    let b = c.in-Ok.book.bytes.now in
+    let t = c.args.text.now in
+    rw c.start_at-start.ensures (started-more b t c.args.slots 0 (length c.args.records.now) (admits-length t c.in-Ok.ensures.1) (omega arith) c.requires)
+
+pub returns-in-Ok : goal.returns-in-Ok
+returns-in-Ok c =
+    let b = c.in-Ok.book in
+    let t = c.args.text.now in
+    let n = length c.args.records.now in
+    c.read_from.ensures ∙ ap (λ s. settled n (read_on b.bytes.now t s)) c.start_at-start.ensures ∙ into-is b.bytes.now t c.args.slots n c.in-Ok.ensures.1 b.valid
+    ∙ ap (λ bytes. sequence_into bytes t c.args.slots n) c.in-Ok.ensures.0
+
+pub returns-in-Err : goal.returns-in-Err
+returns-in-Err c =
+    refused-is c.args.book.now c.args.text.now c.args.slots (length c.args.records.now) c.in-Err.refusal c.fill.new.self c.in-Err.ensures
+    (rw c.zero_record.ensures at (c.fill.ensures.after (λ y h. cc)))
