@@ -2,17 +2,15 @@
 use mathlib.Core.Path.{◌≡◌, refl}
 use mathlib.Core.Bool.{Bool, true, false, cond}
 use mathlib.Core.List.{List}
-use Prim.Native.Nat.{ℕ, ◌+◌, ◌-◌, ◌<◌, ◌≤◌}
-use native.Mathlib.Nat.{add-zero, add_assoc}
+use Prim.Native.Nat.{ℕ, ◌+◌, ◌<◌, ◌≤◌}
+use native.Mathlib.Nat.{add-zero}
 use native.Mathlib.Omega.{arith}
 use lib.ListN.{length, drop, get_or, get_or-eq_default}
 use lib.Seq.{get_or-drop, drop-drop}
-use lib.Dec.{eqb, leb, ltb}
-use borrow.Author.Tests.{eqb-true, leb-true, leb-false}
-use Rattle.ascii.specs.Ascii.{is_blank, is_eol}
-use Rattle.ascii.specs.Text.{leading}
-use Rattle.ascii.proofs.Flags.{or-none, by_cases}
-use Rattle.lexer.specs.Continuation.{sentinel_any, eol, comment_f, marker, lead, ended, tailed, break_c, break_f, Unended}
+use lib.Dec.{eqb}
+use borrow.Author.Tests.{eqb-true}
+use Rattle.ascii.proofs.Flags.{or-none}
+use Rattle.lexer.specs.Continuation.{eol, comment_f, ended, tailed, break_c, break_f, Unended}
 
 -- no text begins with the continuations of both languages
 pub one-break : (xs : List ℕ) → 0 < break_c xs → break_f xs ≡ 0

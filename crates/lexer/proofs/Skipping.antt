@@ -1,15 +1,13 @@
 -- Laws of skipping trivia, at a place of a text in the terms of a loop: by induction over the bytes that are passed.
 use mathlib.Core.Path.{◌≡◌, refl}
-use mathlib.Core.Bool.{Bool, true, false, cond, ◌&&◌}
+use mathlib.Core.Bool.{Bool}
 use Rattle.std.specs.Prelude.{Some, None, Ok, Err}
 use mathlib.Core.List.{List, [], ◌∷◌}
-use Prim.Native.Nat.{ℕ, zero, suc, ◌+◌, ◌-◌, ◌<◌, ◌≤◌}
+use Prim.Native.Nat.{ℕ, zero, suc, ◌+◌, ◌<◌, ◌≤◌}
 use native.Mathlib.Nat.{add-zero}
-use native.Mathlib.Numerals.{add-one}
 use native.Mathlib.Omega.{arith}
-use lib.ListN.{length, drop, get_or, length-drop, drop_of_length-le}
-use lib.Seq.{drop-cons, drop-drop, get_or-drop}
-use lib.Dec.{eqb, ltb}
+use lib.ListN.{length, drop, length-drop, drop_of_length-le}
+use lib.Seq.{drop-cons, drop-drop}
 use Rattle.refusal.specs.declared.Reason.TheVariants.{UnclosedComment}
 use Rattle.refusal.specs.Verdict.{refusal_at}
 use Rattle.lexer.specs.Trivia.{trivia_of, skip_from}

@@ -172,8 +172,8 @@ pub fn last_end(text: &[u8]) -> usize
     }
 }
 
-// A place from which on no line ends, by one that is known. It is sought once, where the first `&` stands: where the text ends in an end of line the
-// search is over at once.
+// A place from which on no line ends, by one that is known. It is sought once, where the first `&` stands: until then it is the text's length, which is
+// such a place too, so that no state says whether it was sought. Where the text ends in an end of line the search is over at once.
 pub fn ends_before(text: &[u8], at: usize, ends: usize) -> usize
     requires { Unended text.now ends }
     ensures { Unended text.now result }

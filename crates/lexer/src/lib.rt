@@ -33,7 +33,7 @@ pub struct Dialect {
     pub prefix: Prefix,
 }
 
-// A place in a text, which moves forward.
+// A place in a text, which moves forward. The text is not in it: each step would have to promise besides that it kept the text.
 #[derive(Clone, Copy, Debug, PartialEq, Eq)]
 pub struct Cursor {
     pub at: usize,

@@ -71,6 +71,7 @@ pub fn skip(text: &[u8], at: usize, fortran: bool) -> Result<usize, Refusal>
     ensures inside { Inside at (length text.now) result }
 {
     let mut i = at;
+    // by a number of bytes that each stretch of trivia gives anew
     while i < text.len() {
         match trivia_of(&text[i..], fortran) {
             None => {

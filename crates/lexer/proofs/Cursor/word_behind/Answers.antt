@@ -9,11 +9,11 @@ use Rattle.lexer.proofs.Cursor.word_behind.Goals as goal
 pub returns-then-not-starts_with-clause-result_value : goal.returns-then-not-starts_with-clause-result_value
 returns-then-not-starts_with-clause-result_value c =
     let e : begins exactly c.args.word.now (drop c.args.self.at c.args.text.now) ≡ false =
-        begins-starts c.args.word.now (drop c.args.self.at c.args.text.now) ∙ rw take_rest at (sym c.starts_with.ensures.value ∙ c.if-not-starts_with.true) in
+    begins-starts c.args.word.now (drop c.args.self.at c.args.text.now) ∙ rw take_rest at (sym c.starts_with.ensures.value ∙ c.if-not-starts_with.true) in
     rw (c.at.ensures, e) refl
 
 pub returns-clause-result_value : goal.returns-clause-result_value
 returns-clause-result_value c =
     let e : begins exactly c.args.word.now (drop c.args.self.at c.args.text.now) ≡ true =
-        begins-starts c.args.word.now (drop c.args.self.at c.args.text.now) ∙ rw take_rest at (sym c.starts_with.ensures.value ∙ c.if-not-starts_with.false) in
+    begins-starts c.args.word.now (drop c.args.self.at c.args.text.now) ∙ rw take_rest at (sym c.starts_with.ensures.value ∙ c.if-not-starts_with.false) in
     rw e refl

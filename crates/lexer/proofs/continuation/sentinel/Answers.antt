@@ -1,5 +1,5 @@
 -- `sentinel` meets its contract: a text that has the prefix behind two bytes has room for it.
-use Rattle.std.proofs.Common.{◌≤◌, ℕ, length, sym, ◌∙◌, arith, length-drop, length-take}
+use Rattle.std.proofs.Common.{ℕ, sym, ◌∙◌, arith, length-drop, length-take}
 use Rattle.ascii.specs.Ascii.{fold}
 use Rattle.lexer.specs.Continuation.{prefix_bytes}
 use Rattle.lexer.proofs.Laws.{begins-fits, prefix-length}

@@ -17,7 +17,7 @@ returns-in-None-clause-value c =
 pub returns-in-Some-eq0-clause-value : goal.returns-in-Some-eq0-clause-value
 returns-in-Some-eq0-clause-value c =
     let e : trivia_of c.args.fortran (drop c.loop-i.i c.args.text.now) ≡ Some 0 =
-        rw (take_rest, c.in-Some-eq0.field-0-test) at (sym c.trivia_of.ensures.value ∙ c.in-Some-eq0.is) in
+    rw (take_rest, c.in-Some-eq0.field-0-test) at (sym c.trivia_of.ensures.value ∙ c.in-Some-eq0.is) in
     sym (skip-none _ _ _ c.loop-i-test.true e) ∙ c.loop-i.invariant.2
 
 pub loop-i-preserved : goal.loop-i-preserved
