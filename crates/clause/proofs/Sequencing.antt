@@ -187,7 +187,8 @@ settle last rs n (given q) l h r us e g =
     rw (o, u) refl
 settle last rs n (refused m p) l h r us e g =
     let o : r ≡ Err h.0 = e ∙ h.1 in
-    let u : us ≡ padded zero_record n [] = rw (o, l) at g in
+    let z : n - 0 ≡ n = omega arith in
+    let u : us ≡ replicate (n - 0) zero_record = rw z (rw (o, l) at g) in
     rw (o, u, h.2, h.3) refl
 
 pub settles : (bk t : List ℕ) (s : SequenceState) (n : ℕ) → Started bk t n s → (r : Result SequenceEnd Refusal) (rs us : List ClauseRecord)

@@ -1,6 +1,6 @@
 -- The start of a reading: it is a start for as many slots, and what is read from it is what the definitions give, that of the call behind the checks before it.
 -- By cases on the trivia.
-use Prim.Native.Nat.{ℕ, ◌≤◌}
+use Prim.Native.Nat.{ℕ, ◌-◌, ◌≤◌}
 use Rattle.std.specs.Prelude.{Some, None, Result, Ok, Err, MatchResult}
 use mathlib.Core.Path.{◌≡◌, ◌∙◌, refl, sym, ap}
 use mathlib.Core.List.{List}
@@ -70,7 +70,9 @@ module _ (bk t : List ℕ) (left size : ℕ) where
   pub refused-is : (r : Refusal) (us : List ClauseRecord) → ((a : Answer Sequence) → admitted t (unless_fault 4 (book_fault bk) a) ≡ refused_by r) → us ≡ replicate size zero_record
       → ◌≡◌ {A = SequenceCall} (record { answer = refused_by r; records = us }) (sequence_into bk t left size)
   unfolding sequence_into
-  refused-is r us h e = rw (h (sequence_at (book_of bk) t left 0), e) refl
+  refused-is r us h e =
+      let z : size - 0 ≡ size = omega arith in
+      rw (h (sequence_at (book_of bk) t left 0), z, e) refl
 
 -- a call in which every slot is used
 pub call-is : (bk t : List ℕ) (size : ℕ) → sequence_into bk t size size ≡ sequence_call bk t size

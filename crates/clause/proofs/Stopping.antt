@@ -1,14 +1,15 @@
 -- Once a step does not go on, every later step gives the same state with a zeroed record, so that `fill_records` stops there and zeroes the rest.
 -- By cases on what was read at a place: only a clause with its separator goes on, and any other step leaves the zeroed record. Assumes nothing.
-use Prim.Native.Nat.{ℕ, zero, suc, ◌+◌, ◌-◌, ◌<◌}
+use Prim.Native.Nat.{ℕ, zero, suc, ◌+◌, ◌-◌, ◌≤◌, ◌<◌}
 use mathlib.Core.Bool.{Bool, true, false, cond, true≢false}
 use Rattle.std.specs.Prelude.{Result, Ok, Err}
 use mathlib.Core.Path.{◌≡◌, refl, sym, ap, ◌∙◌}
-use mathlib.Core.List.{List, ◌∷◌, ◌++◌}
+use mathlib.Core.List.{List, [], ◌∷◌, ◌++◌, append-nil}
 use native.Mathlib.Omega.{arith}
 use native.Mathlib.Numerals.{add-one}
-use lib.ListN.{length, take, drop, replicate}
-use lib.Seq.{take_at}
+use lib.ListN.{length, take, drop, replicate, length-drop, drop_of_length-le}
+use lib.Seq.{take_at, take_all}
+use borrow.Rule.Slice.PartMut.{put_mid}
 use lib.Dec.{eqb}
 use Rattle.refusal.specs.declared.Refusal.{Refusal}
 use Rattle.rulebook.specs.Book.{Book, book_of}
@@ -104,9 +105,9 @@ module _ (bk t : List ℕ) (s : SequenceState) where
     pub ended-state : state_at bk t s (i + 1) ≡ state_at bk t s n
     ended-state = rw add-one (sym (same-state i ends (n - suc i) n (omega arith)))
 
-    pub ended-records : (ys zs : List ClauseRecord) → length ys ≡ n → zs ≡ take (i + 1) (filled bk t s ys (i + 1)) ++ replicate (length (filled bk t s ys (i + 1)) - (i + 1)) zero_record
+    pub ended-records : (ys xs zs : List ClauseRecord) → length ys ≡ n → xs ≡ filled bk t s ys (i + 1) → zs ≡ take (i + 1) xs ++ replicate (length xs - (i + 1)) zero_record
         → zs ≡ records_from bk t s 0 n
-    ended-records ys zs l g =
+    ended-records ys xs zs l m g =
         let j = suc i in
         let rs = records_from bk t s 0 j in
         let h : j ≤ length ys = omega arith in
@@ -114,4 +115,15 @@ module _ (bk t : List ℕ) (s : SequenceState) where
         let z : 0 + j ≡ j = omega arith in
         let kept : take j (filled bk t s ys j) ≡ rs = ap (take j) (filled_is bk t s ys j h) ∙ take_at rs (drop j ys) j (length-records bk t s 0 j) in
         let all : records_from bk t s 0 n ≡ rs ++ records_from bk t s j (n - j) = rw (d, z) at (records-apart j 0 (n - j)) in
-        rw add-one at g ∙ rw (kept, length-filled, l) (ap (λ (q : List ClauseRecord). rs ++ q) (sym (no-records i ends 0 j (n - j) (omega arith))) ∙ sym all)
+        let put = rw (m, add-one) at g in
+        put ∙ rw (kept, length-filled, l) (ap (λ (q : List ClauseRecord). rs ++ q) (sym (no-records i ends 0 j (n - j) (omega arith))) ∙ sym all)
+
+-- a slice once its part from a place on is zeroed
+pub zeroed : (a : ℕ) (xs zs : List ClauseRecord) → zs ≡ replicate (length (take (length xs - a) (drop a xs))) zero_record
+    → put_mid a (length xs - a) xs zs ≡ take a xs ++ replicate (length xs - a) zero_record
+zeroed a xs zs e =
+    let l : length (drop a xs) ≡ length xs - a = length-drop a xs in
+    let over : length (drop a xs) ≤ length xs - a = omega arith in
+    let n : length (take (length xs - a) (drop a xs)) ≡ length xs - a = rw take_all l in
+    let none : drop (length xs - a) (drop a xs) ≡ [] = drop_of_length-le (drop a xs) over in
+    rw (none, e, n, append-nil) refl

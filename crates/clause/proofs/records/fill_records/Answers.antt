@@ -1,9 +1,9 @@
 -- `fill_records` meets its contract: each turn is a step of the definition, and once a step does not go on the zeroed rest is what all later ones give.
-use Rattle.std.proofs.Common.{◌≡◌, ◌∙◌, ◌+◌, false, refl, ap, sym, length, arith, add-one}
+use Rattle.std.proofs.Common.{◌≡◌, ◌∙◌, ◌+◌, false, refl, ap, sym, length, set, arith, add-one}
 use Rattle.clause.specs.Steps.{is_going, next_state, state_at}
 use Rattle.clause.proofs.Filling.{at-start, at_next, filled, filled-all}
 use Rattle.clause.proofs.Properness.{proper-at}
-use Rattle.clause.proofs.Stopping.{ended-state, ended-records}
+use Rattle.clause.proofs.Stopping.{ended-state, ended-records, zeroed}
 use Rattle.clause.proofs.records.fill_records.Goals as goal
 
 pub loop-i-init : goal.loop-i-init
@@ -32,7 +32,18 @@ returns-then-not-goes_on-clause-state c =
     e ∙ ended-state b t s i (length c.args.records.now) c.loop-i-test.true (rw e at over)
 
 pub returns-then-not-goes_on-clause-records : goal.returns-then-not-goes_on-clause-records
-returns-then-not-goes_on-clause-records c = ?
+returns-then-not-goes_on-clause-records c =
+    let b = c.args.book.now.bytes.now in
+    let t = c.args.text.now in
+    let s = c.args.start in
+    let ys = c.args.records.now in
+    let i = c.loop-i.i in
+    let xs = set c.loop-i.records i c.next-s.result.clause in
+    let e : c.next-s.result ≡ state_at b t s (i + 1) = c.next-s.ensures ∙ ap (next_state b t) c.loop-i.invariant.0 ∙ at_next b t s i in
+    let over : is_going c.next-s.result.progress ≡ false = sym c.if-not-goes_on.ensures in
+    let put : xs ≡ filled b t s ys (i + 1) = rw (c.loop-i.invariant.1, e, add-one) in
+    let zeros = rw c.zero_record.ensures at (c.fill.ensures.after (λ y h. cc)) in
+    ended-records b t s i (length ys) c.loop-i-test.true (rw e at over) ys xs _ refl put (zeroed (i + 1) xs c.fill.new.self zeros)
 
 pub returns-clause-records : goal.returns-clause-records
 returns-clause-records c =
