@@ -3,13 +3,16 @@
 use mathlib.Core.Path.{◌≡◌, refl, sym, ap, ◌∙◌}
 use mathlib.Core.Bool.{Bool, true, false, cond}
 use Rattle.std.specs.Prelude.{Option, Some, None, Ok, Err}
-use mathlib.Core.List.{List, []}
-use Prim.Native.Nat.{ℕ, suc, ◌≤◌, ◌<◌}
+use mathlib.Core.List.{List, [], ◌++◌, append-nil}
+use Prim.Native.Nat.{ℕ, suc, ◌+◌, ◌-◌, ◌≤◌, ◌<◌}
+use native.Mathlib.Nat.{sub-zero}
 use native.Mathlib.Omega.{arith}
-use lib.ListN.{length}
+use lib.ListN.{length, take, replicate, drop_of_length-le}
+use lib.Seq.{drop-drop}
 use lib.Dec.{ltb}
+use borrow.Rule.Slice.PartMut.{put_mid, post_of}
 use borrow.Author.Tests.{ltb-false}
-use Rattle.ascii.specs.Text.{padded}
+use Rattle.ascii.proofs.Slots.{padded-take}
 use Rattle.ascii.proofs.Flags.{or-none}
 use Rattle.refusal.specs.declared.Reason.TheVariants.{InvalidLine}
 use Rattle.refusal.specs.declared.Refusal.{Refusal}
@@ -45,6 +48,13 @@ room-fine : (b : Bool) (v : Verdict) → cond b short_buffer v ≡ fine → b �
 room-fine false v e = refl
 room-fine true v e = let z : ◌≡◌ {A = ℕ} 0 1 = cc in absurd (omega arith)
 
+-- a buffer of which all but the first n slots are filled with zeros
+zeros-behind : (t ys : List ℕ) (n : ℕ) → n ≤ length t → ys ≡ replicate (length t - n) 0 → put_mid n (length t - n) t ys ≡ take n t ++ replicate (length t - n) 0
+zeros-behind t ys n h e =
+    let m : n + (length t - n) ≡ length t = omega arith in
+    let none : post_of n (length t - n) t ≡ [] = drop-drop (length t - n) n t ∙ rw m (drop_of_length-le t (omega arith)) in
+    rw (none, append-nil, e)
+
 module _ (l : Language) (p : Prefix) (line : List ℕ) (text_slots map_slots : ℕ) where
   join-answer : join_answer l p line text_slots map_slots ≡ or_refused (join_verdict l p line text_slots map_slots) (given (length (joined_text l line)))
   unfolding join_answer join_verdict
@@ -53,16 +63,21 @@ module _ (l : Language) (p : Prefix) (line : List ℕ) (text_slots map_slots : �
       let w = cond (is_short line text_slots map_slots) short_buffer (fault_by InvalidLine (fault l p line)) in
       sym (then-refused (text_verdict line) w a ∙ admits line (or_refused w a) ∙ ap (admitted line) (room-refused (is_short line text_slots map_slots) (fault l p line) a))
 
-  pub join-refused : (r : Refusal) → join_verdict l p line text_slots map_slots ≡ Err r
-      → join_call l p line text_slots map_slots ≡ record { answer = refused_by r; text = padded 0 text_slots []; map = padded 0 map_slots [] }
+  -- what the slots hold after a refusal, and after the line is joined into them
+  pub join-refused : (r : Refusal) (text map : List ℕ) → join_verdict l p line text_slots map_slots ≡ Err r → text ≡ replicate text_slots 0 → map ≡ replicate map_slots 0
+      → record { answer = refused_by r; text = text; map = map } ≡ join_call l p line text_slots map_slots
   unfolding join_call
-  join-refused r e = rw (join-answer, e)
+  join-refused r text map e t m = rw (join-answer, e, t, m, sub-zero, sub-zero)
 
-  pub join-fine : join_verdict l p line text_slots map_slots ≡ fine
-      → join_call l p line text_slots map_slots
-      ≡ record { answer = given (length (joined_text l line)); text = padded 0 text_slots (joined_text l line); map = padded 0 map_slots (joined_map l line) }
+  pub join-done : (n : ℕ) (t m text map : List ℕ) → join_verdict l p line text_slots map_slots ≡ fine → length t ≡ text_slots → length m ≡ map_slots → n ≤ text_slots → n < map_slots
+      → n ≡ length (joined_text l line) → take n t ≡ joined_text l line → take (n + 1) m ≡ joined_map l line
+      → text ≡ replicate (length t - n) 0 → map ≡ replicate (length m - (n + 1)) 0
+      → record { answer = given n; text = put_mid n (length t - n) t text; map = put_mid (n + 1) (length m - (n + 1)) m map } ≡ join_call l p line text_slots map_slots
   unfolding join_call
-  join-fine e = rw (join-answer, e)
+  join-done n t m text map e u v h g c x y f k =
+      let a = zeros-behind t text n (omega arith) f ∙ padded-take 0 t n (omega arith) x in
+      let b = zeros-behind m map (n + 1) (omega arith) k ∙ padded-take 0 m (n + 1) (omega arith) y in
+      rw (join-answer, e, a, b, u, v, c)
 
   pub join-fits : join_verdict l p line text_slots map_slots ≡ fine → (length line ≤ max_length) × (length line ≤ text_slots) × (length line < map_slots)
   unfolding join_verdict
@@ -80,13 +95,16 @@ module _ (content : List ℕ) (size : ℕ) where
       let w = cond (ltb size (length content)) short_buffer fine in
       sym (then-refused (text_verdict content) w a ∙ admits content (or_refused w a) ∙ ap (admitted content) (room-refused (ltb size (length content)) None a))
 
-  pub copy-refused : (r : Refusal) → copy_verdict content size ≡ Err r → copy_call content size ≡ record { answer = refused_by r; copy = padded 0 size [] }
+  pub copy-refused : (r : Refusal) (copy : List ℕ) → copy_verdict content size ≡ Err r → copy ≡ replicate size 0 → record { answer = refused_by r; copy = copy } ≡ copy_call content size
   unfolding copy_call
-  copy-refused r e = rw (copy-answer, e)
+  copy-refused r copy e z = rw (copy-answer, e, z, sub-zero)
 
-  pub copy-fine : copy_verdict content size ≡ fine → copy_call content size ≡ record { answer = given (length (collapsed content)); copy = padded 0 size (collapsed content) }
+  pub copy-done : (n : ℕ) (t copy : List ℕ) → copy_verdict content size ≡ fine → length t ≡ size → n ≤ size → n ≡ length (collapsed content) → take n t ≡ collapsed content
+      → copy ≡ replicate (length t - n) 0 → record { answer = given n; copy = put_mid n (length t - n) t copy } ≡ copy_call content size
   unfolding copy_call
-  copy-fine e = rw (copy-answer, e)
+  copy-done n t copy e u h c x f =
+      let a = zeros-behind t copy n (omega arith) f ∙ padded-take 0 t n (omega arith) x in
+      rw (copy-answer, e, a, u, c)
 
   pub copy-fits : copy_verdict content size ≡ fine → length content ≤ size
   unfolding copy_verdict

@@ -1,4 +1,4 @@
--- Laws of a run that stays: none, one byte more at its end, one before it; a byte that is neither `\` nor `&` begins no continuation.
+-- Laws of a run that stays: none, one byte more at its end, one before it, a run of plain bytes; a byte that is neither `\` nor `&` begins no continuation.
 -- Assumes nothing.
 use Prim.Native.Nat.{ℕ, zero, suc, ◌+◌, ◌-◌, ◌<◌, ◌≤◌}
 use native.Mathlib.Nat.{add-zero}
@@ -8,10 +8,16 @@ use mathlib.Core.Path.{◌≡◌, refl, ap, ◌∙◌}
 use mathlib.Core.Bool.{Bool, true, false, not, ◌&&◌}
 use mathlib.Core.List.{List, [], ◌∷◌, ◌++◌, map, append_assoc}
 use lib.ListN.{length, take, drop, get_or, length-drop}
-use lib.Seq.{drop-cons, take-suc, get_or-drop}
+use lib.Seq.{drop-cons, take-suc, get_or-drop, length-take-le}
 use lib.Dec.{eqb}
 use borrow.Author.Tests.{not-true}
 use Rattle.ascii.proofs.Flags.{and_left, and_right}
+use Rattle.std.specs.List.{prefix_len}
+use Rattle.std.proofs.lemmas.List.Sums.{prefix_len_passes}
+use Rattle.ascii.specs.Text.{leading}
+use Rattle.ascii.proofs.Texts.{leading_le, leading_counts}
+use borrow.Rule.Slice.PartMut.{put_mid}
+use Rattle.std.proofs.lemmas.Slice.{take-put_mid}
 use Rattle.lexer.specs.Continuation.{break_c, break_f}
 use Rattle.source.specs.Joining.{any_cut, byte_of}
 use Rattle.source.specs.Staying.{is_plain, staying, Stays}
@@ -65,6 +71,20 @@ module _ (xs : List ℕ) (from : ℕ) where
       }
 
 -- a run of plain bytes stays
-pub stays-run : (n : ℕ) (xs : List ℕ) (from : ℕ) → from ≤ length xs → n ≡ leading is_plain (drop from xs) → Stays xs from (from + n)
-stays-run zero xs from h e = rw add-zero (stays-none xs from h)
-stays-run (suc n) xs from h e = ?
+pub stays-run : (xs : List ℕ) (from n : ℕ) → from ≤ length xs → n ≤ leading is_plain (drop from xs) → Stays xs from (from + n)
+stays-run xs from zero h e = rw add-zero (stays-none xs from h)
+stays-run xs from (suc n) h e =
+    let m : from + n + 1 ≡ from + suc n = omega arith in
+    let l : n < prefix_len is_plain (drop from xs) = omega (arith, leading_counts is_plain (drop from xs)) in
+    let plain : is_plain (get_or xs (from + n) 0) ≡ true = rw (← get_or-drop from xs n 0) (prefix_len_passes is_plain (drop from xs) n 0 l) in
+    rw m at (stays-more xs from (from + n) (stays-run xs from n h (omega arith)) (omega (arith, leading_le is_plain (drop from xs), length-drop from xs)) plain)
+
+-- what is copied, with what stays behind a run, is the whole again
+pub copied : (xs buffer part : List ℕ) (i k end : ℕ) → k ≤ length buffer → Stays xs i end → part ≡ take (end - i) (drop i xs) → take k buffer ++ staying xs i ≡ staying xs 0
+    → take (k + length part) (put_mid k (k + length part - k) buffer part) ++ staying xs (i + length part) ≡ staying xs 0
+copied xs buffer part i k end h s e f =
+    let o = s.ordered in
+    let w = s.within in
+    let n : length part ≡ end - i = rw e (length-take-le (end - i) (drop i xs) (rw length-drop (omega arith))) in
+    let m : i + length part ≡ end = omega arith in
+    rw (take-put_mid k (k + length part - k) buffer part (k + length part) refl h, m, append_assoc, e, ← s.kept) f

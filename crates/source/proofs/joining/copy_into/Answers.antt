@@ -1,0 +1,49 @@
+-- A byte that stays is copied with the run behind it; a continuation is passed over.
+use Rattle.std.proofs.Common.{◌≡◌, ◌+◌, ◌-◌, ◌∙◌, ◌≤◌, sym, refl, ap, arith, rules, take, drop, length, length-drop, append_assoc}
+use Rattle.std.proofs.Math.Seq.{length-take-le}
+use Rattle.std.proofs.lemmas.List.{append-nil}
+use Rattle.source.specs.Joining.{any_cut, collapsed}
+use Rattle.source.specs.Staying.{Stays}
+use Rattle.source.proofs.Kept.{kept-jump, kept-end}
+use Rattle.source.proofs.Staying.{stays-first, copied}
+use Rattle.source.proofs.joining.copy_into.Goals as goal
+
+pub loop-i-preserved-then-gone-eq0 : goal.loop-i-preserved-then-gone-eq0
+loop-i-preserved-then-gone-eq0 c =
+    let t = c.args.content.now in
+    let i = c.loop-i.i in
+    let end = c.plain_end.result in
+    let run = take (end - i) (drop i t) in
+    let none = sym c.if-gone-eq0.true ∙ c.any_cut_before-gone.ensures.value in
+    let s : Stays t i end = stays-first t i end c.loop-i-test.true none c.plain_end.ensures in
+    let o : i ≤ end = s.ordered in
+    let w : end ≤ length t = s.within in
+    let n : length run ≡ end - i = length-take-le (end - i) (drop i t) (rw length-drop (omega arith)) in
+    let part : c.copy_from_slice.new.self ≡ run = search rules in
+    let size : length c.copy_from_slice.new.self ≡ length run = ap length part in
+    record {
+      behind = omega arith;
+      within = omega arith;
+      copy = rw part (copied t c.loop-i.copy run i c.loop-i.k end (omega arith) s refl c.loop-i.invariant.copy);
+      ends = c.ends_before-ends.ensures;
+    }
+
+pub loop-i-preserved : goal.loop-i-preserved
+loop-i-preserved c =
+    record {
+      behind = omega arith;
+      within = omega arith;
+      copy = rw (← kept-jump any_cut, c.loop-i-test.true, c.any_cut_before-gone.ensures.value, c.if-gone-eq0.false) c.loop-i.invariant.copy;
+      ends = c.ends_before-ends.ensures;
+    }
+
+pub returns-clause-count : goal.returns-clause-count
+unfolding collapsed
+returns-clause-count c =
+    let copy = rw (kept-end any_cut, c.loop-i-test.false, append-nil) at c.loop-i.invariant.copy in
+    let a : c.loop-i.k ≤ length c.loop-i.copy = omega arith in
+    rw (← copy, length-take-le)
+
+pub returns-clause-copy : goal.returns-clause-copy
+unfolding collapsed
+returns-clause-copy c = rw (kept-end any_cut, c.loop-i-test.false, append-nil) at c.loop-i.invariant.copy

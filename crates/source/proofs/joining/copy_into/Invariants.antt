@@ -1,0 +1,17 @@
+-- What is written, with what stays of the rest of the content, is the whole.
+use Rattle.std.proofs.Common.{◌≡◌, ◌++◌, ◌-◌, ◌≤◌, length, take}
+use Rattle.lexer.specs.Continuation.{Unended}
+use Rattle.source.specs.Staying.{staying}
+use Rattle.source.proofs.joining.copy_into.Given as goal
+
+abbrev pub invariant-loop-i : goal.invariant-loop-i
+invariant-loop-i l =
+    record {
+      behind : l.k ≤ l.i;
+      within : l.i ≤ length l.content;
+      copy : take l.k l.copy ++ staying l.content l.i ≡ staying l.content 0;
+      ends : Unended l.content l.ends;
+    }
+
+abbrev pub decreases-loop-i : goal.decreases-loop-i
+decreases-loop-i l = length l.content - l.i

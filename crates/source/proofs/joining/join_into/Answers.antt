@@ -1,0 +1,49 @@
+-- A byte that stays is written with its place; a continuation is passed over.
+use Rattle.std.proofs.Common.{◌≡◌, ◌+◌, ◌∙◌, ◌<◌, ◌≤◌, sym, arith, take, drop, length, add-one}
+use Rattle.std.proofs.Math.Seq.{length-take-le, take-suc-set}
+use Rattle.std.proofs.lemmas.List.{append-nil}
+use Rattle.ascii.proofs.Slots.{pushed}
+use Rattle.source.specs.Joining.{joined_text, joined_map}
+use Rattle.source.proofs.Kept.{kept_next, kept-jump, kept-end}
+use Rattle.source.proofs.joining.join_into.Goals as goal
+
+pub loop-i-preserved-then-stays : goal.loop-i-preserved-then-stays
+loop-i-preserved-then-stays c =
+    let l = c.loop-i in
+    let none = sym c.if-stays.true ∙ c.cut_before-gone.ensures.value in
+    let a : l.k < length l.text = omega arith in
+    let b : l.k < length l.map = omega arith in
+    record {
+      behind = omega arith;
+      within = omega arith;
+      text = rw pushed (rw (kept_next, c.loop-i-test.true, none) at l.invariant.text);
+      map = rw pushed (rw (kept_next, c.loop-i-test.true, none) at l.invariant.map);
+    }
+
+pub loop-i-preserved : goal.loop-i-preserved
+loop-i-preserved c =
+    let l = c.loop-i in
+    record {
+      behind = omega arith;
+      within = omega arith;
+      text = rw (← kept-jump, c.loop-i-test.true, c.cut_before-gone.ensures.value, c.if-stays.false) l.invariant.text;
+      map = rw (← kept-jump, c.loop-i-test.true, c.cut_before-gone.ensures.value, c.if-stays.false) l.invariant.map;
+    }
+
+pub returns-clause-count : goal.returns-clause-count
+unfolding joined_text
+returns-clause-count c =
+    let text = rw (kept-end, c.loop-i-test.false, append-nil) at c.loop-i.invariant.text in
+    let a : c.loop-i.k ≤ length c.loop-i.text = omega arith in
+    rw (← text, length-take-le)
+
+pub returns-clause-text : goal.returns-clause-text
+unfolding joined_text
+returns-clause-text c = rw (kept-end, c.loop-i-test.false, append-nil) at c.loop-i.invariant.text
+
+pub returns-clause-map : goal.returns-clause-map
+unfolding joined_map
+returns-clause-map c =
+    let map = rw (kept-end, c.loop-i-test.false, append-nil) at c.loop-i.invariant.map in
+    let b : c.loop-i.k < length c.loop-i.map = omega arith in
+    rw (add-one, take-suc-set, map)
