@@ -47,7 +47,7 @@ module _ (short long : Book) (a : IsAppended short long) (strict : short.default
   sequence-kept room comma zero at (x ∷ xs) s h =
       let t = turn-of short text room comma at x xs s strict h in
       let e = clause-kept at t.read t.reads in
-      let n = rw (← a.same_case) at t.separates in
+      let n : separated long.ignores_case text t.read.end ≡ Ok t.after = rw a.same_case t.separates in
       let g = sequence-kept (room - 1) t.after.comma (t.after.next - suc at) (suc at) xs t.later t.goes_on in
       rw (sequence_from, e, t.has_room, n, g) (ap given (sym t.gives))
 
