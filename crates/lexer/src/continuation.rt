@@ -5,6 +5,7 @@ ghost use Rattle.ascii.specs.Text.{begins, comparing};
 ghost use Rattle.lexer.specs.Continuation.{prefix_bytes, break_c, marked, sentinel as sentinel_of, opening_sentinel, is_boundary, sentinel_ended, sentinel_any, eol as eol_of, comment_f, marker as marker_of, lead as lead_of, break_f, Unended};
 
 use super::{Dialect, Language, Prefix};
+use ascii::class::fold;
 use ascii::sets::{Blank, InLine};
 
 // The break of C: a backslash with LF or CR LF.
@@ -27,11 +28,14 @@ pub fn prefix_at(rest: &[u8], prefix: Prefix, ignore_case: bool) -> bool
     ascii::begins_at(rest, 0, prefix.bytes(), ignore_case)
 }
 
-// Whether a text begins with `!$`, `c$` or `*$`.
+// Whether a text begins with `!$`, `c$` or `*$`. Case is ignored by the fold, as everywhere.
 fn is_marked(rest: &[u8]) -> bool
     ensures { result ≡ marked rest.now }
 {
-    matches!(rest, [b'!' | b'c' | b'C' | b'*', b'$', ..])
+    match rest {
+        [first, b'$', ..] => matches!(fold(*first), b'!' | b'c' | b'*'),
+        _ => false,
+    }
 }
 
 // The sentinel, with the prefix or alone.
