@@ -44,21 +44,21 @@ impl Slot for ClauseRecord {
 
     // The eight fields, in the order of document 01.
     fn item<W: fmt::Write>(self, f: &mut Formatter<W>) -> fmt::Result {
-        let (parenthesized, preceded, trailing) = (
-            u8::from(self.parenthesized),
-            u8::from(self.preceded),
-            u8::from(self.trailing),
-        );
-        write!(
-            f,
-            "{}/{}/{}/{parenthesized}",
-            self.name_start, self.name_end, self.entry
-        )?;
-        write!(
-            f,
-            "/{}/{}/{preceded}/{trailing}",
-            self.content_start, self.content_end
-        )
+        let ClauseRecord {
+            name_start,
+            name_end,
+            entry,
+            parenthesized,
+            content_start,
+            content_end,
+            preceded,
+            trailing,
+        } = self;
+        let parenthesized = u8::from(parenthesized);
+        let preceded = u8::from(preceded);
+        let trailing = u8::from(trailing);
+        write!(f, "{name_start}/{name_end}/{entry}/{parenthesized}")?;
+        write!(f, "/{content_start}/{content_end}/{preceded}/{trailing}")
     }
 }
 
@@ -97,7 +97,9 @@ impl<const N: usize> Count<N> {
         })
     }
 
-    pub fn get(self) -> usize {
+    pub fn get(self) -> usize
+        ensures { result ≤ N }
+    {
         self.n
     }
 

@@ -1,5 +1,5 @@
 // What the words of a request spell; None where a word spells no such thing.
-ghost use Rattle.std.specs.Prelude.{◌<◌, ◌≤◌, IfSome};
+ghost use Rattle.std.specs.Prelude.{◌<◌, ◌≤◌, length, IfSome};
 
 // A number in decimal digits, at most `most`.
 pub fn number(word: &[u8], most: usize) -> Option<usize>
@@ -34,7 +34,9 @@ fn hex_digit(b: u8) -> Option<u8>
 }
 
 // Bytes, two hexadecimal digits each or `-` for none, put at the start of a buffer.
-pub fn hex<'s>(word: &[u8], buffer: &'s mut [u8]) -> Option<&'s [u8]> {
+pub fn hex<'s>(word: &[u8], buffer: &'s mut [u8]) -> Option<&'s [u8]>
+    ensures { IfSome result (λ bytes. length bytes.now ≤ length buffer.old) }
+{
     if matches!(word, b"-") {
         return Some(&[]);
     }
@@ -49,7 +51,9 @@ pub fn hex<'s>(word: &[u8], buffer: &'s mut [u8]) -> Option<&'s [u8]> {
 }
 
 // 16-bit numbers, separated by commas, or `-` for none, put at the start of a buffer.
-pub fn list<'s>(word: &[u8], buffer: &'s mut [u16]) -> Option<&'s [u16]> {
+pub fn list<'s>(word: &[u8], buffer: &'s mut [u16]) -> Option<&'s [u16]>
+    ensures { IfSome result (λ numbers. length numbers.now ≤ length buffer.old) }
+{
     if matches!(word, b"-") {
         return Some(&[]);
     }
