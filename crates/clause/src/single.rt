@@ -11,7 +11,7 @@ use crate::{ClauseError, ClauseRead, ClauseRecord, Separation};
 use ascii::Range;
 use ascii::sets::Word;
 use bookform::ClauseRule;
-use code::{CommentStyle, NoMatch};
+use code::{CodeText, CommentStyle, NoMatch};
 use refusal::{Reason, Refusal};
 use rulebook::CheckedBook;
 
@@ -85,7 +85,11 @@ impl ClauseWord<'_> {
             (matching (style self.now.fortran) (suc at) (drop (suc at) self.now.text.now)) }
     {
         let inner = at + 1;
-        match code::walk::match_from(self.text, inner, style_of(self.fortran), self.clean) {
+        let code = CodeText {
+            text: self.text,
+            style: style_of(self.fortran),
+        };
+        match code.match_from(inner, self.clean) {
             Ok(close) => {
                 let content = ascii::trim_between(self.text, inner, close);
                 Ok(ClauseRead {

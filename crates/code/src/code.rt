@@ -4,7 +4,7 @@ ghost use Rattle.ascii.specs.Ascii.{is_eol};
 ghost use Rattle.ascii.specs.Text.{up_to};
 ghost use Rattle.code.specs.Code.{is_c_like, is_fortran, has_escapes, hides_next, more, literal, block_end, quoted, commented, slashed, banged, piece, is_plain, scan_at, onward, Fits, Ends};
 
-use crate::{CommentStyle, Piece, Unclosed};
+use crate::{CodeText, CommentStyle, Piece, Unclosed};
 use ascii::sets::InLine;
 
 impl CommentStyle {
@@ -26,42 +26,6 @@ impl CommentStyle {
     {
         matches!(self, CommentStyle::Fortran)
     }
-}
-
-// Whether the quote q stands at a place and behind it. The next byte is asked for behind a quote alone.
-fn is_doubled(text: &[u8], at: usize, q: u8) -> bool
-    requires { at < length text.now }
-    ensures { result ≡ (eqb (get_or text.now at 0) q && eqb (get_or text.now (at + 1) 0) q) }
-{
-    text[at] == q && ascii::byte_at(text, at + 1) == q
-}
-
-// Whether the byte at a place of a literal in q keeps the one after it inside.
-pub fn hides_next(text: &[u8], at: usize, q: u8, style: CommentStyle) -> bool
-    requires { at < length text.now }
-    ensures { result ≡ hides_next style q (get_or text.now at 0) (get_or text.now (at + 1) 0) }
-{
-    let escapes = style.has_escapes();
-    (escapes && text[at] == b'\\') || is_doubled(text, at, q)
-}
-
-// The end of a literal in q, from a place inside it.
-pub fn quote_end(text: &[u8], from: usize, q: u8, style: CommentStyle) -> Option<usize>
-    requires { from ≤ length text.now }
-    ensures result_value { result ≡ more from (literal style q 0 (drop from text.now)) }
-    ensures ends { Ends from (length text.now) result }
-{
-    let mut i = from;
-    while i < text.len() {
-        if hides_next(text, i, q, style) {
-            i += 2;
-        } else if text[i] == q {
-            return Some(i + 1);
-        } else {
-            i += 1;
-        }
-    }
-    None
 }
 
 // The end of a block comment, from a place inside it.
@@ -88,18 +52,6 @@ pub fn line_end(text: &[u8], from: usize) -> usize
     if end < text.len() { end + 1 } else { end }
 }
 
-// The literal that an opening quote at a place begins.
-fn quote_at(text: &[u8], at: usize, style: CommentStyle) -> Piece
-    requires { at < length text.now }
-    ensures value { result ≡ quoted (literal style (get_or text.now at 0) 0 (drop (at + 1) text.now)) }
-    ensures fits { Fits at (length text.now) result }
-{
-    match quote_end(text, at + 1, text[at], style) {
-        Some(end) => Piece::Hidden(end - at),
-        None => Piece::OpenQuote,
-    }
-}
-
 // The block comment that `/*` at a place begins.
 fn block_at(text: &[u8], at: usize) -> Piece
     requires { at + 2 ≤ length text.now }
@@ -112,45 +64,6 @@ fn block_at(text: &[u8], at: usize) -> Piece
     }
 }
 
-// What a slash at a place begins.
-fn slash_at(text: &[u8], at: usize, style: CommentStyle) -> Piece
-    requires { at < length text.now }
-    ensures value { result ≡ slashed style (drop (at + 1) text.now) }
-    ensures fits { Fits at (length text.now) result }
-{
-    match ascii::byte_at(text, at + 1) {
-        b'*' => block_at(text, at),
-        b'/' if style.is_c_like() => Piece::Hidden(line_end(text, at + 2) - at),
-        _ => Piece::Code,
-    }
-}
-
-// What an exclamation mark at a place begins.
-fn bang_at(text: &[u8], at: usize, style: CommentStyle) -> Piece
-    requires { at < length text.now }
-    ensures value { result ≡ banged style (drop (at + 1) text.now) }
-    ensures fits { Fits at (length text.now) result }
-{
-    if style.is_fortran() && ascii::byte_at(text, at + 1) != b'$' {
-        return Piece::Hidden(line_end(text, at + 1) - at);
-    }
-    Piece::Code
-}
-
-// What a text has at a place.
-pub fn piece_at(text: &[u8], at: usize, style: CommentStyle) -> Piece
-    requires { at < length text.now }
-    ensures value { result ≡ piece style (drop at text.now) }
-    ensures fits { Fits at (length text.now) result }
-{
-    match text[at] {
-        b'\'' | b'"' => quote_at(text, at, style),
-        b'/' => slash_at(text, at, style),
-        b'!' => bang_at(text, at, style),
-        _ => Piece::Code,
-    }
-}
-
 // Whether a byte begins no literal and no comment, in any style: most bytes, so that a walk asks this first.
 pub fn is_plain(b: u8) -> bool
     ensures { result ≡ is_plain b }
@@ -158,43 +71,135 @@ pub fn is_plain(b: u8) -> bool
     !matches!(b, b'\'' | b'"' | b'/' | b'!')
 }
 
-// The first literal or comment without an end, from a place on.
-pub fn first_unclosed(text: &[u8], from: usize, style: CommentStyle) -> Option<Unclosed>
-    requires { from ≤ length text.now }
-    ensures { result ≡ (scan_at style text.now from).fault }
-{
-    let mut i = from;
-    while i < text.len() {
-        if is_plain(text[i]) {
-            i += 1;
-        } else {
-            match piece_at(text, i, style) {
-                Piece::Code => i += 1,
-                Piece::Hidden(n) => i += n,
-                Piece::OpenQuote => return Some(Unclosed::Quote(i)),
-                Piece::OpenComment => return Some(Unclosed::Comment(i)),
+impl CodeText<'_> {
+    // Whether the quote q stands at a place and behind it. The next byte is asked for behind a quote alone.
+    fn is_doubled(&self, at: usize, q: u8) -> bool
+        requires { at < length self.now.text.now }
+        ensures { result ≡ (eqb (get_or self.now.text.now at 0) q && eqb (get_or self.now.text.now (at + 1) 0) q) }
+    {
+        self.text[at] == q && ascii::byte_at(self.text, at + 1) == q
+    }
+
+    // Whether the byte at a place of a literal in q keeps the one after it inside.
+    pub fn hides_next(&self, at: usize, q: u8) -> bool
+        requires { at < length self.now.text.now }
+        ensures { result ≡ hides_next self.now.style q (get_or self.now.text.now at 0) (get_or self.now.text.now (at + 1) 0) }
+    {
+        let escapes = self.style.has_escapes();
+        (escapes && self.text[at] == b'\\') || self.is_doubled(at, q)
+    }
+
+    // The end of a literal in q, from a place inside it.
+    pub fn quote_end(&self, from: usize, q: u8) -> Option<usize>
+        requires { from ≤ length self.now.text.now }
+        ensures result_value { result ≡ more from (literal self.now.style q 0 (drop from self.now.text.now)) }
+        ensures ends { Ends from (length self.now.text.now) result }
+    {
+        let text = self.text;
+        let mut i = from;
+        while i < text.len() {
+            if self.hides_next(i, q) {
+                i += 2;
+            } else if text[i] == q {
+                return Some(i + 1);
+            } else {
+                i += 1;
             }
         }
+        None
     }
-    None
-}
 
-// The next byte of code from a place on, or the end: of the text, or of its code before a literal or comment without an end.
-pub fn next_code(text: &[u8], from: usize, style: CommentStyle) -> usize
-    requires { from ≤ length text.now }
-    ensures from_value { (scan_at style text.now from).codes ≡ onward style text.now result }
-    ensures lower_bound { (from ≤ result) × (result ≤ length text.now) }
-{
-    let mut i = from;
-    while i < text.len() {
-        if is_plain(text[i]) {
-            return i;
-        }
-        match piece_at(text, i, style) {
-            Piece::Code => return i,
-            Piece::Hidden(n) => i += n,
-            Piece::OpenQuote | Piece::OpenComment => return text.len(),
+    // The literal that an opening quote at a place begins.
+    fn quote_at(&self, at: usize) -> Piece
+        requires { at < length self.now.text.now }
+        ensures value { result ≡ quoted (literal self.now.style (get_or self.now.text.now at 0) 0 (drop (at + 1) self.now.text.now)) }
+        ensures fits { Fits at (length self.now.text.now) result }
+    {
+        match self.quote_end(at + 1, self.text[at]) {
+            Some(end) => Piece::Hidden(end - at),
+            None => Piece::OpenQuote,
         }
     }
-    i
+
+    // What a slash at a place begins.
+    fn slash_at(&self, at: usize) -> Piece
+        requires { at < length self.now.text.now }
+        ensures value { result ≡ slashed self.now.style (drop (at + 1) self.now.text.now) }
+        ensures fits { Fits at (length self.now.text.now) result }
+    {
+        match ascii::byte_at(self.text, at + 1) {
+            b'*' => block_at(self.text, at),
+            b'/' if self.style.is_c_like() => Piece::Hidden(line_end(self.text, at + 2) - at),
+            _ => Piece::Code,
+        }
+    }
+
+    // What an exclamation mark at a place begins.
+    fn bang_at(&self, at: usize) -> Piece
+        requires { at < length self.now.text.now }
+        ensures value { result ≡ banged self.now.style (drop (at + 1) self.now.text.now) }
+        ensures fits { Fits at (length self.now.text.now) result }
+    {
+        if self.style.is_fortran() && ascii::byte_at(self.text, at + 1) != b'$' {
+            return Piece::Hidden(line_end(self.text, at + 1) - at);
+        }
+        Piece::Code
+    }
+
+    // What a text has at a place.
+    pub fn piece_at(&self, at: usize) -> Piece
+        requires { at < length self.now.text.now }
+        ensures value { result ≡ piece self.now.style (drop at self.now.text.now) }
+        ensures fits { Fits at (length self.now.text.now) result }
+    {
+        match self.text[at] {
+            b'\'' | b'"' => self.quote_at(at),
+            b'/' => self.slash_at(at),
+            b'!' => self.bang_at(at),
+            _ => Piece::Code,
+        }
+    }
+
+    // The first literal or comment without an end, from a place on.
+    pub fn first_unclosed(&self, from: usize) -> Option<Unclosed>
+        requires { from ≤ length self.now.text.now }
+        ensures { result ≡ (scan_at self.now.style self.now.text.now from).fault }
+    {
+        let text = self.text;
+        let mut i = from;
+        while i < text.len() {
+            if is_plain(text[i]) {
+                i += 1;
+            } else {
+                match self.piece_at(i) {
+                    Piece::Code => i += 1,
+                    Piece::Hidden(n) => i += n,
+                    Piece::OpenQuote => return Some(Unclosed::Quote(i)),
+                    Piece::OpenComment => return Some(Unclosed::Comment(i)),
+                }
+            }
+        }
+        None
+    }
+
+    // The next byte of code from a place on, or the end: of the text, or of its code before a literal or comment without an end.
+    pub fn next_code(&self, from: usize) -> usize
+        requires { from ≤ length self.now.text.now }
+        ensures from_value { (scan_at self.now.style self.now.text.now from).codes ≡ onward self.now.style self.now.text.now result }
+        ensures lower_bound { (from ≤ result) × (result ≤ length self.now.text.now) }
+    {
+        let text = self.text;
+        let mut i = from;
+        while i < text.len() {
+            if is_plain(text[i]) {
+                return i;
+            }
+            match self.piece_at(i) {
+                Piece::Code => return i,
+                Piece::Hidden(n) => i += n,
+                Piece::OpenQuote | Piece::OpenComment => return text.len(),
+            }
+        }
+        i
+    }
 }

@@ -25,6 +25,13 @@ pub enum CommentStyle {
     FortranBlock,
 }
 
+// A text, and what is invisible in it: its code bytes are what quotes and comments leave.
+#[derive(Clone, Copy)]
+pub struct CodeText<'a> {
+    pub text: &'a [u8],
+    pub style: CommentStyle,
+}
+
 // What a text has at a place: a byte of code, a run of so many invisible bytes, or a literal or comment without an end.
 #[derive(Clone, Copy, Debug, PartialEq, Eq)]
 pub enum Piece {
