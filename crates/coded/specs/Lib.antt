@@ -1,3 +1,4 @@
 pub mod Coded
+pub mod Judging
 pub mod Lines
 pub mod Sequences

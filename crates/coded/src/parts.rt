@@ -19,6 +19,16 @@ pub fn part_end(size: usize, at: usize, end: usize) -> usize
     end.min(size).max(at)
 }
 
+// Zeroes the slots. A loop, as `fill` would clone an array, and asks that so many words fit in memory: not known of any N.
+fn clear<const N: usize>(slots: &mut [[u64; N]])
+    ensures { slots.new ≡ replicate (length slots.old) (replicate N 0) }
+{
+    let zeros = [0; N];
+    for slot in slots.iter_mut() {
+        *slot = zeros;
+    }
+}
+
 // How many parts were answered, each in its slot; a slot with no part is zeroed. A part ends at its end number, and starts where the one before has
 // ended.
 pub fn answer_parts<const N: usize, A: AnswerPart<N>>(
@@ -33,11 +43,11 @@ pub fn answer_parts<const N: usize, A: AnswerPart<N>>(
 {
     let n = ends.len().min(answers.len());
     let mut at = 0;
-    for (i, end) in ends[..n].iter().enumerate() {
-        let stop = part_end(bytes.len(), at, *end);
+    for i in 0..n {
+        let stop = part_end(bytes.len(), at, ends[i]);
         answers[i] = by.answer(&bytes[at..stop]);
         at = stop;
     }
-    answers[n..].fill([0; N]);
+    clear(&mut answers[n..]);
     n
 }

@@ -1,7 +1,8 @@
 // The answers of many clause sequences under one check of their book.
 ghost use Rattle.std.specs.Prelude.{◌≡◌, length};
 ghost use Rattle.refusal.specs.Answer.{told};
-ghost use Rattle.clause.specs.Calls.{Judged, sequence_call};
+ghost use Rattle.clause.specs.Calls.{sequence_call};
+ghost use Rattle.coded.specs.Judging.{JudgedAs};
 ghost use Rattle.coded.specs.Sequences.{coded_end};
 
 use crate::code_of;
@@ -27,7 +28,7 @@ pub struct SequenceReader<'a> {
     pub checked: Result<CheckedBook<'a>, Refusal>,
     // record slots that a sequence may take
     pub slots: usize,
-    pub ghost judged: { Judged book.now checked },
+    pub ghost judged: { JudgedAs book.now checked },
 }
 
 impl AnswerPart<2> for SequenceReader<'_> {
