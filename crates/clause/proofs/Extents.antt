@@ -8,7 +8,7 @@ use native.Mathlib.Omega.{arith}
 use Rattle.std.specs.Prelude.{Option, Some, None, Result, Ok, Err}
 use lib.ListN.{length, drop, get_or, length-drop, get_or-eq_default}
 use lib.Dec.{eqb, ltb}
-use borrow.Author.Tests.{eqb-true, eqb-false}
+use borrow.Author.Tests.{eqb-true, eqb-false, ltb-true, ltb-false}
 use Rattle.ascii.specs.Ascii.{is_word}
 use Rattle.ascii.specs.Text.{starts}
 use Rattle.ascii.proofs.Texts.{leading_le}
@@ -29,7 +29,6 @@ use Rattle.bookform.specs.declared.ClauseRule.{ClauseRule}
 use Rattle.bookform.specs.declared.ClauseRule.TheVariants.{Bare, Parenthesized, Flexible, Unsupported}
 use Rattle.rulebook.specs.Book.{Book}
 use Rattle.rulebook.specs.Lookup.{index_or, rule_or}
-use Rattle.clause.proofs.Walking.{by-truth, is-less, is-over}
 use Rattle.clause.specs.declared.Separation.{Separation}
 use Rattle.clause.specs.Clause.{Read, failed, style, closing, argument, word_length, found, clause_at}
 use Rattle.clause.specs.Sequence.{after_comma, at_comma, separated}
@@ -94,11 +93,15 @@ matching-within y text at h = matching-closes y at (drop at text) (length text) 
 
 -- the first byte of what is left at a place is no 0, so the place is within the text
 pub starts-inside : (b p : ℕ) (text : List ℕ) → starts (suc b) (drop p text) ≡ true → p < length text
-starts-inside b p text h =
-    by-truth (ltb p (length text)) (is-less p (length text)) (λ t.
-    let over : length (drop p text) ≤ 0 = let l = is-over p (length text) t in simp length-drop (omega arith) in
-    let e : 0 ≡ suc b = sym (get_or-eq_default (drop p text) 0 over) ∙ eqb-true (get_or (drop p text) 0 0) (suc b) h in
-    absurd (omega arith))
+starts-inside b p text h = go (ltb p (length text)) refl
+  where
+    go : (t : Bool) → ltb p (length text) ≡ t → p < length text
+    go true e = ltb-true p (length text) e
+    go false e =
+        let l = ltb-false p (length text) e in
+        let over : length (drop p text) ≤ 0 = simp length-drop (omega arith) in
+        let z : 0 ≡ suc b = sym (get_or-eq_default (drop p text) 0 over) ∙ eqb-true (get_or (drop p text) 0 0) (suc b) h in
+        absurd (omega arith)
 
 -- a clause ends behind its start, within n bytes
 abbrev pub EndsWithin : ℕ → ℕ → Read → Type 0

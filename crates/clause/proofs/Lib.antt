@@ -1,7 +1,6 @@
 pub mod Turns
 pub mod Rest
 pub mod Appended
-pub mod Walking
 pub mod Filling
 pub mod Stopping
 pub mod Properness
