@@ -1,5 +1,7 @@
 -- What a book says: its flags, its default rule, and its entries in order. "Entries count from 0."
 use Rattle.std.specs.Prelude.{ℕ, zero, suc, ◌+◌, ◌≤◌, ◌/◌, ◌%◌, Bool, List, [], ◌∷◌, length, map, get_or, eqb, Option, Some, None}
+use mathlib.Core.HLevel.{×₃_prop}
+use denote.Struct.Props as logic
 use Rattle.ascii.specs.declared.Range.{Range}
 use Rattle.ascii.specs.Text.{part}
 use Rattle.bookform.specs.declared.ClauseRule.{ClauseRule}
@@ -51,6 +53,12 @@ unfoldable pub Laid : ℕ → ℕ → ℕ → List ℕ → Type 0
 Laid lead zero at bs = at ≤ length bs
 Laid lead (suc n) at bs =
     (1 ≤ get_or bs (at + lead) 0) × ((name_at lead at bs).end ≤ length bs) × Laid lead n (name_at lead at bs).end bs
+
+-- that has one proof at most, so it may be a ghost field
+pub Laid-prop : (lead n at : ℕ) (bs : List ℕ) → IsProp (Laid lead n at bs)
+unfolding Laid
+Laid-prop lead zero at bs = Prim.hlevel logic.props
+Laid-prop lead (suc n) at bs = ×₃_prop (Prim.hlevel logic.props) (Prim.hlevel logic.props) (Laid-prop lead n (name_at lead at bs).end bs)
 
 -- the entries of one kind
 abbrev pub entries_in : Entries → List ℕ → List Entry

@@ -1,14 +1,14 @@
 // The index of a book, and looking names up by it.
 ghost use Rattle.std.specs.Prelude.{◌≡◌, ◌<◌};
 ghost use Rattle.ascii.specs.Text.{comparing};
-ghost use Rattle.rulebook.specs.Book.{entries_in, LaidIn};
+ghost use Rattle.rulebook.specs.Book.{entries_in};
 ghost use Rattle.rulebook.specs.Lookup.{find_from};
 ghost use Rattle.rulebook.specs.Signature.{signature as signature_of};
 ghost use Rattle.rulebook.specs.Index.{last_named, Indexed, Looked, Fresh, Blank};
 
 use crate::lookup::{name_at, same};
+use crate::names::Listed;
 use ascii::class::fold;
-use bookform::Entries;
 
 // The entries of one kind: for each signature the last entry that has it, and for each entry the one before it with the same. A slot is one
 // word, 0 if there is no entry, so that a link is followed by one load and the whole index is 4 KB: how far behind the first the entry
@@ -27,6 +27,42 @@ impl NameIndex {
             heads: [0; 256],
             links: [0; 256],
         }
+    }
+
+    // The last of the entries that has a name: of those with its signature each leads to the one before.
+    pub fn last_named(
+        &self,
+        listed: Listed,
+        mark: usize,
+        name: &[u8],
+        ignore_case: bool,
+    ) -> Option<FoundEntry>
+        requires mark_bound { (mark < 256) × (mark ≡ signature_of name.now) }
+        requires indexed { Indexed listed.entries.lead listed.entries.first listed.entries.count listed.book.now self.now }
+        ensures { result ≡ last_named (comparing ignore_case) name.now listed.entry.entries.lead listed.entry.entries.first listed.entry.book.now listed.entry.entries.count }
+    {
+        let book = listed.book;
+        let entries = listed.entries;
+        let mut slot = self.heads[mark];
+        while slot != 0 {
+            let told = (slot - 1) as usize;
+            let number = told % 256;
+            let at = entries.first + told / 256;
+            let range = name_at(book, entries.lead, at);
+            if same(&book[range.start..range.end], name, ignore_case) {
+                return Some(FoundEntry { index: number, at });
+            }
+            slot = self.links[number];
+        }
+        None
+    }
+
+    // The entry that has a name. There is no second one.
+    pub fn look_up(&self, listed: Listed, name: &[u8], ignore_case: bool) -> Option<FoundEntry>
+        requires { Looked listed.entries listed.book.now self.now }
+        ensures { result ≡ find_from (comparing ignore_case) 0 name.now (entries_in listed.entry.entries listed.entry.book.now) }
+    {
+        self.last_named(listed, signature(name), name, ignore_case)
     }
 }
 
@@ -68,47 +104,4 @@ pub fn signature(name: &[u8]) -> usize
         sum = (sum + usize::from(fold(*b) % 32)) % 4096;
     }
     (sum + sums * 37) % 256
-}
-
-// The last of the entries that has a name: of those with its signature each leads to the one before.
-pub fn last_named(
-    book: &[u8],
-    entries: Entries,
-    index: &NameIndex,
-    mark: usize,
-    name: &[u8],
-    ignore_case: bool,
-) -> Option<FoundEntry>
-    requires laid_in { LaidIn entries book.now }
-    requires mark_bound { (mark < 256) × (mark ≡ signature_of name.now) }
-    requires indexed { Indexed entries.lead entries.first entries.count book.now index.now }
-    ensures { result ≡ last_named (comparing ignore_case) name.now entries.lead entries.first book.now entries.count }
-{
-    let mut slot = index.heads[mark];
-    while slot != 0 {
-        let told = (slot - 1) as usize;
-        let number = told % 256;
-        let at = entries.first + told / 256;
-        let range = name_at(book, entries.lead, at);
-        if same(&book[range.start..range.end], name, ignore_case) {
-            return Some(FoundEntry { index: number, at });
-        }
-        slot = index.links[number];
-    }
-    None
-}
-
-// The entry that has a name. There is no second one.
-pub fn look_up(
-    book: &[u8],
-    entries: Entries,
-    index: &NameIndex,
-    name: &[u8],
-    ignore_case: bool,
-) -> Option<FoundEntry>
-    requires laid_in { LaidIn entries book.now }
-    requires looked { Looked entries book.now index.now }
-    ensures { result ≡ find_from (comparing ignore_case) 0 name.now (entries_in entries book.now) }
-{
-    last_named(book, entries, index, signature(name), name, ignore_case)
 }

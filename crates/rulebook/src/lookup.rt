@@ -5,8 +5,7 @@ ghost use Rattle.bookform.specs.Format.{rule_for, HasForm};
 ghost use Rattle.rulebook.specs.Book.{rule_said, name_at, header_of, book_of};
 ghost use Rattle.rulebook.specs.Lookup.{comparison, entry_from, clause_entry};
 
-use crate::index::look_up;
-use crate::names::{Names, names_of};
+use crate::names::{Listed, Names};
 use crate::{CheckedBook, ClauseEntry, Header};
 use ascii::{Range, same_byte};
 use bookform::{ClauseRule, Entries};
@@ -90,13 +89,15 @@ impl<'a> CheckedBook<'a> {
         ensures { result ≡ clause_entry (book_of self.now.bytes.now) name.now }
     {
         let header = self.header;
-        match look_up(
-            self.bytes,
-            header.clauses,
-            &self.index.clauses,
-            name,
-            header.ignores_case,
-        ) {
+        let listed = Listed {
+            book: self.bytes,
+            entries: header.clauses,
+        };
+        match self
+            .index
+            .clauses
+            .look_up(listed, name, header.ignores_case)
+        {
             Some(found) => ClauseEntry {
                 index: found.index as u16,
                 rule: rule_said(self.bytes[found.at]),
@@ -113,13 +114,14 @@ impl<'a> CheckedBook<'a> {
         ensures { result ≡ entry_from (comparison (book_of self.now.bytes.now)) 0 name.now (book_of self.now.bytes.now).directives }
     {
         let header = self.header;
-        let found = look_up(
-            self.bytes,
-            header.directives,
-            &self.index.directives,
-            name,
-            header.ignores_case,
-        )?;
+        let listed = Listed {
+            book: self.bytes,
+            entries: header.directives,
+        };
+        let found = self
+            .index
+            .directives
+            .look_up(listed, name, header.ignores_case)?;
         Some(found.index)
     }
 
@@ -127,6 +129,10 @@ impl<'a> CheckedBook<'a> {
     pub fn directive_names(&self) -> Names<'a>
         ensures { result ≡ map (λ e. e.name) (book_of self.now.bytes.now).directives }
     {
-        names_of(self.bytes, self.header.directives)
+        let listed = Listed {
+            book: self.bytes,
+            entries: self.header.directives,
+        };
+        listed.names()
     }
 }

@@ -1,11 +1,48 @@
-// The names of a book's entries of one kind, one after another.
-ghost use Rattle.std.specs.Prelude.{◌≡◌, ℕ, List};
+// A book's entries of one kind, and their names one after another.
+ghost use Rattle.std.specs.Prelude.{◌≡◌, ◌≤◌, ℕ, List};
 ghost use Rattle.std.specs.Iterator.{YieldsFirstRef, item_count};
-ghost use Rattle.rulebook.specs.Book.{Laid, LaidIn, names_from};
+ghost use Rattle.rulebook.specs.Book.{Laid, LaidIn, Laid-prop, names_from};
 
 use crate::lookup::name_at;
 use bookform::Entries;
 use std::marker::Model;
+
+// Entries of one kind, which lie inside their book.
+#[derive(Clone, Copy)]
+pub struct Listed<'a> {
+    pub book: &'a [u8],
+    pub entries: Entries,
+    pub ghost laid: { LaidIn entries book.now } by { Laid-prop entries.lead entries.count entries.first book.now },
+}
+
+impl<'a> Listed<'a> {
+    // So many of the entries, from the first on.
+    pub fn first(self, count: usize) -> Listed<'a>
+        requires { count ≤ self.entries.count }
+        ensures book { result.book ≡ self.entry.book }
+        ensures entries { result.entries ≡ record { lead = self.entry.entries.lead; first = self.entry.entries.first; count = count } }
+    {
+        Listed {
+            book: self.book,
+            entries: Entries {
+                lead: self.entries.lead,
+                first: self.entries.first,
+                count,
+            },
+        }
+    }
+
+    pub fn names(self) -> Names<'a>
+        ensures { result ≡ names_from self.entry.entries.lead self.entry.entries.count self.entry.entries.first self.entry.book.now }
+    {
+        Names {
+            book: self.book,
+            lead: self.entries.lead,
+            at: self.entries.first,
+            left: self.entries.count,
+        }
+    }
+}
 
 // Yields the names of the entries that are left, in order; clauses see it as the list of these names.
 #[derive(Drop)]
@@ -39,18 +76,5 @@ impl<'a> Iterator for Names<'a> {
         self.at = range.end;
         self.left -= 1;
         Some(&self.book[range.start..range.end])
-    }
-}
-
-// The names of entries that lie inside a book.
-pub fn names_of(book: &[u8], entries: Entries) -> Names<'_>
-    requires { LaidIn entries book.now }
-    ensures { result ≡ names_from entries.lead entries.count entries.first book.now }
-{
-    Names {
-        book,
-        lead: entries.lead,
-        at: entries.first,
-        left: entries.count,
     }
 }

@@ -1,48 +1,42 @@
 // Names that repeat earlier ones, found by the index that is made on the way.
-ghost use Rattle.std.specs.Prelude.{◌≡◌, [], None, ◌<◌, ◌≤◌, MatchResult};
+ghost use Rattle.std.specs.Prelude.{◌≡◌, ℕ, [], None, ◌<◌, ◌≤◌, get_or, MatchResult};
 ghost use Rattle.ascii.specs.Ascii.{fold};
-ghost use Rattle.rulebook.specs.Book.{place_after, entries_in, LaidIn, header_of, book_of};
+ghost use Rattle.rulebook.specs.Book.{place_after, entries_in, header_of, book_of};
 ghost use Rattle.bookform.specs.Format.{HasForm};
 ghost use Rattle.rulebook.specs.Check.{is_named, repeat_from, or_else, book_fault};
 ghost use Rattle.rulebook.specs.Signature.{signature as signature_of};
 ghost use Rattle.rulebook.specs.Index.{Indexed, Fresh, Blank, Indexes};
 
-use crate::index::{Index, NameIndex, last_named, signature};
+use crate::index::{Index, NameIndex, signature};
 use crate::lookup::{clauses_of, directives_of};
-use crate::names::names_of;
-use bookform::Entries;
+use crate::names::Listed;
 
 // Whether an earlier entry has a name, case ignored.
-fn is_repeat(book: &[u8], earlier: Entries, index: &NameIndex, mark: usize, name: &[u8]) -> bool
-    requires laid_in { LaidIn earlier book.now }
+fn is_repeat(earlier: Listed, index: &NameIndex, mark: usize, name: &[u8]) -> bool
     requires mark_bound { (mark < 256) × (mark ≡ signature_of name.now) }
-    requires indexed { Indexed earlier.lead earlier.first earlier.count book.now index.now }
-    ensures { result ≡ is_named fold name.now (entries_in earlier book.now) }
+    requires indexed { Indexed earlier.entries.lead earlier.entries.first earlier.entries.count earlier.book.now index.now }
+    ensures { result ≡ is_named fold name.now (entries_in earlier.entry.entries earlier.entry.book.now) }
 {
     // most names are the first with their signature
-    index.heads[mark] != 0 && last_named(book, earlier, index, mark, name, true).is_some()
+    index.heads[mark] != 0 && index.last_named(earlier, mark, name, true).is_some()
 }
 
 // The place of the first entry that repeats an earlier one's name, case ignored, as the error; else where the entries end, and the index is made.
-fn repeat_among(book: &[u8], entries: Entries, index: &mut NameIndex) -> Result<usize, usize>
-    requires laid_in { LaidIn entries book.now }
-    requires lead_bound { (entries.lead ≤ 1) × (entries.count ≤ 255) }
+fn repeat_among(listed: Listed, index: &mut NameIndex) -> Result<usize, usize>
+    requires lead_bound { (listed.entries.lead ≤ 1) × (listed.entries.count ≤ 255) }
+    requires bytes { (i : ℕ) → get_or listed.book.now i 0 < 256 }
     requires blank { Blank index.old }
     ensures { MatchResult result
-        (λ end. (repeat_from [] (entries_in entries book.now) ≡ None)
-        × (Indexed entries.lead entries.first entries.count book.now index.new)
-        × (end ≡ place_after entries.lead entries.count entries.first book.now))
-        (λ place. repeat_from [] (entries_in entries book.now) ≡ Some place) }
+        (λ end. (repeat_from [] (entries_in listed.entry.entries listed.entry.book.now) ≡ None)
+        × (Indexed listed.entry.entries.lead listed.entry.entries.first listed.entry.entries.count listed.entry.book.now index.new)
+        × (end ≡ place_after listed.entry.entries.lead listed.entry.entries.count listed.entry.entries.first listed.entry.book.now))
+        (λ place. repeat_from [] (entries_in listed.entry.entries listed.entry.book.now) ≡ Some place) }
 {
+    let entries = listed.entries;
     let mut at = entries.first;
-    for (number, name) in names_of(book, entries).enumerate() {
-        let earlier = Entries {
-            lead: entries.lead,
-            first: entries.first,
-            count: number,
-        };
+    for (number, name) in listed.names().enumerate() {
         let mark = signature(name);
-        if is_repeat(book, earlier, index, mark, name) {
+        if is_repeat(listed.first(number), index, mark, name) {
             return Err(at);
         }
         index.links[number] = index.heads[mark];
@@ -61,7 +55,15 @@ pub fn index_names(book: &[u8], index: &mut Index) -> Result<usize, usize>
         (λ end. (book_fault book.now ≡ None) × (Indexes book.now index.new) × (end ≡ (header_of book.now).clauses.first))
         (λ place. book_fault book.now ≡ Some place) }
 {
-    let end = repeat_among(book, directives_of(book), &mut index.directives)?;
-    repeat_among(book, clauses_of(book, end), &mut index.clauses)?;
+    let directives = Listed {
+        book,
+        entries: directives_of(book),
+    };
+    let end = repeat_among(directives, &mut index.directives)?;
+    let clauses = Listed {
+        book,
+        entries: clauses_of(book, end),
+    };
+    repeat_among(clauses, &mut index.clauses)?;
     Ok(end)
 }

@@ -5,12 +5,12 @@ use Rattle.rulebook.proofs.Forms.{valid-form}
 use Rattle.rulebook.proofs.Finding.{header-directives, book-directives}
 use Rattle.rulebook.proofs.CheckedBook.directive_names.Goals as goal
 
-pub names_of-requires : goal.names_of-requires
-names_of-requires c =
+pub invariant_of-listed : goal.invariant_of-listed
+invariant_of-listed c =
     let b = c.args.self.now in
-    header-directives b.bytes.now b.header (valid-form b.bytes.now b.valid) b.header_read
+    record { laid = header-directives b.bytes.now b.header (valid-form b.bytes.now b.valid) b.header_read }
 
 pub returns : goal.returns
 returns c =
     let b = c.args.self.now in
-    c.names_of.ensures ∙ ap (map (λ (e : Entry). e.name)) (sym (book-directives b.bytes.now b.header b.header_read))
+    c.names.ensures ∙ ap (map (λ (e : Entry). e.name)) (sym (book-directives b.bytes.now b.header b.header_read))

@@ -6,10 +6,10 @@ use Rattle.rulebook.proofs.Finding.{header-clauses, clause-found, entry_found, e
 use Rattle.rulebook.proofs.Indexes.{count-clauses}
 use Rattle.rulebook.proofs.CheckedBook.find_clause.Goals as goal
 
-pub look_up-requires-clause-laid_in : goal.look_up-requires-clause-laid_in
-look_up-requires-clause-laid_in c =
+pub invariant_of-listed : goal.invariant_of-listed
+invariant_of-listed c =
     let b = c.args.self.now in
-    header-clauses b.bytes.now b.header (valid-form b.bytes.now b.valid) b.header_read
+    record { laid = header-clauses b.bytes.now b.header (valid-form b.bytes.now b.valid) b.header_read }
 
 pub overflow_cast-result : goal.overflow_cast-result
 overflow_cast-result c =

@@ -4,10 +4,10 @@ use Rattle.rulebook.proofs.Forms.{valid-form}
 use Rattle.rulebook.proofs.Finding.{index_of, header-directives, directive-index}
 use Rattle.rulebook.proofs.CheckedBook.find_directive.Goals as goal
 
-pub look_up-requires-clause-laid_in : goal.look_up-requires-clause-laid_in
-look_up-requires-clause-laid_in c =
+pub invariant_of-listed : goal.invariant_of-listed
+invariant_of-listed c =
     let b = c.args.self.now in
-    header-directives b.bytes.now b.header (valid-form b.bytes.now b.valid) b.header_read
+    record { laid = header-directives b.bytes.now b.header (valid-form b.bytes.now b.valid) b.header_read }
 
 pub returns-in_err-found : goal.returns-in_err-found
 returns-in_err-found c =

@@ -6,16 +6,22 @@ use Rattle.rulebook.proofs.Finding.{header-directives, header-clauses}
 use Rattle.rulebook.proofs.Indexes.{directives-fault, clauses-fault, lead-directives, lead-clauses, count-directives, count-clauses, clauses-begin}
 use Rattle.rulebook.proofs.repeats.index_names.Goals as goal
 
-pub repeat_among-requires-clause-laid_in : goal.repeat_among-requires-clause-laid_in
-repeat_among-requires-clause-laid_in c =
+pub invariant_of-directives : goal.invariant_of-directives
+invariant_of-directives c =
     let bs = c.args.book.now in
-    rw c.directives_of.ensures (header-directives bs (header_of bs) c.requires.has_form refl)
+    record { laid = rw c.directives_of.ensures (header-directives bs (header_of bs) c.requires.has_form refl) }
 
 pub repeat_among-requires-clause-lead_bound : goal.repeat_among-requires-clause-lead_bound
 repeat_among-requires-clause-lead_bound c =
     let bs = c.args.book.now in
     rw c.directives_of.ensures
     (omega (arith, lead-directives bs (header_of bs) refl), omega (arith, count-directives bs (header_of bs) refl, c.type_inv.book 7))
+
+pub repeat_among-requires-clause-bytes : goal.repeat_among-requires-clause-bytes
+repeat_among-requires-clause-bytes c i = omega (arith, c.type_inv.book i)
+
+pub repeat_among-requires-2-clause-bytes : goal.repeat_among-requires-2-clause-bytes
+repeat_among-requires-2-clause-bytes c i = omega (arith, c.type_inv.book i)
 
 pub returns-in_err-end : goal.returns-in_err-end
 returns-in_err-end c =
@@ -28,10 +34,10 @@ clauses_of-requires-clause-first_value c =
     let bs = c.args.book.now in
     (rw c.directives_of.ensures at c.in_ok-end.ensures).2 ∙ sym (clauses-begin bs)
 
-pub repeat_among-requires-2-clause-laid_in : goal.repeat_among-requires-2-clause-laid_in
-repeat_among-requires-2-clause-laid_in c =
+pub invariant_of-clauses : goal.invariant_of-clauses
+invariant_of-clauses c =
     let bs = c.args.book.now in
-    rw c.clauses_of.ensures (header-clauses bs (header_of bs) c.requires.has_form refl)
+    record { laid = rw c.clauses_of.ensures (header-clauses bs (header_of bs) c.requires.has_form refl) }
 
 pub repeat_among-requires-2-clause-lead_bound : goal.repeat_among-requires-2-clause-lead_bound
 repeat_among-requires-2-clause-lead_bound c =

@@ -10,12 +10,12 @@ use Rattle.rulebook.proofs.repeats.is_repeat.Goals as goal
 pub returns-then-index-mark-ne0 : goal.returns-then-index-mark-ne0
 returns-then-index-mark-ne0 c =
     let a = c.args in
-    c.is_some.ensures ∙ ap is_found c.last_named.ensures ∙ sym (named-last a.earlier.lead a.earlier.first a.book.now fold a.name.now a.earlier.count)
+    c.is_some.ensures ∙ ap is_found c.last_named.ensures ∙ sym (named-last a.earlier.entries.lead a.earlier.entries.first a.earlier.book.now fold a.name.now a.earlier.entries.count)
 
 pub returns-else-index-mark-ne0 : goal.returns-else-index-mark-ne0
 returns-else-index-mark-ne0 c =
     let a = c.args in
     let h = sym (c.requires.indexed.heads a.mark c.requires.mark_bound.0) ∙ c.if-index-mark-ne0.false in
-    let e : last_slot a.earlier.lead a.earlier.first a.book.now (signature a.name.now) a.earlier.count ≡ 0 = rw c.requires.mark_bound.1 at h in
+    let e : last_slot a.earlier.entries.lead a.earlier.entries.first a.earlier.book.now (signature a.name.now) a.earlier.entries.count ≡ 0 = rw c.requires.mark_bound.1 at h in
     rw c.if-index-mark-ne0.false
-    (sym (named-last a.earlier.lead a.earlier.first a.book.now fold a.name.now a.earlier.count ∙ ap is_found (unreached a.earlier.lead a.earlier.first a.book.now true a.name.now a.earlier.count e)))
+    (sym (named-last a.earlier.entries.lead a.earlier.entries.first a.earlier.book.now fold a.name.now a.earlier.entries.count ∙ ap is_found (unreached a.earlier.entries.lead a.earlier.entries.first a.earlier.book.now true a.name.now a.earlier.entries.count e)))

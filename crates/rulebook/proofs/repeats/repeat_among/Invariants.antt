@@ -8,15 +8,15 @@ use Rattle.rulebook.proofs.repeats.repeat_among.Given as goal
 
 abbrev pub invariant-loop-number : goal.invariant-loop-number
 invariant-loop-number l =
-    let e = l.entries in
+    let e = l.listed.entries in
     let done = l.number-iterator.count in
     (goal.iterator-loop-number).can_next l.number-iterator
     × (goal.iterator-loop-number).is_finite l.number-iterator
     × (done ≤ e.count)
-    × Laid e.lead (e.count - done) l.at l.book
-    × (l.number-iterator.iter ≡ names_from e.lead (e.count - done) l.at l.book)
-    × (l.at ≡ place_after e.lead done e.first l.book)
+    × Laid e.lead (e.count - done) l.at l.listed.book.now
+    × (l.number-iterator.iter ≡ names_from e.lead (e.count - done) l.at l.listed.book.now)
+    × (l.at ≡ place_after e.lead done e.first l.listed.book.now)
     × (e.first ≤ l.at)
     × (l.at ≤ e.first + done * 257)
-    × Indexed e.lead e.first done l.book l.index
-    × (repeat_from (entries_from e.lead done e.first l.book) (entries_from e.lead (e.count - done) l.at l.book) ≡ repeat_from [] (entries_from e.lead e.count e.first l.book))
+    × Indexed e.lead e.first done l.listed.book.now l.index
+    × (repeat_from (entries_from e.lead done e.first l.listed.book.now) (entries_from e.lead (e.count - done) l.at l.listed.book.now) ≡ repeat_from [] (entries_from e.lead e.count e.first l.listed.book.now))

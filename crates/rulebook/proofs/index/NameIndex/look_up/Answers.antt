@@ -1,0 +1,7 @@
+-- `rulebook::index::NameIndex::look_up`: where no name repeats another, the last entry with a name is the first.
+use Rattle.std.proofs.Common.{◌∙◌}
+use Rattle.rulebook.proofs.Indexing.{last-is-first}
+use Rattle.rulebook.proofs.index.NameIndex.look_up.Goals as goal
+
+pub returns : goal.returns
+returns c = c.last_named.ensures ∙ last-is-first _ _ _ c.args.ignore_case c.args.name.now _ c.requires.single
