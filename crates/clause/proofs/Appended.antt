@@ -1,9 +1,9 @@
 -- Clause names that are appended to a book change no accepted sequence under default Unsupported.
 -- A clause that is read has an entry of the shorter book, and that entry is found in the longer one too; so turn by turn. Assumes nothing.
-use Prim.Native.Nat.{ℕ, zero, suc, ◌+◌, ◌-◌, ◌<◌}
+use Prim.Native.Nat.{ℕ, zero, suc, ◌-◌, ◌<◌}
 use mathlib.Core.Bool.{Bool, false}
 use Rattle.std.specs.Prelude.{Some, Result, Ok, Err}
-use mathlib.Core.Path.{◌≡◌, refl, ap, sym, ◌∙◌}
+use mathlib.Core.Path.{◌≡◌, refl, ap, sym}
 use mathlib.Core.List.{List, [], ◌∷◌}
 use native.Mathlib.Omega.{arith}
 use lib.ListN.{length, drop}
@@ -17,7 +17,7 @@ use Rattle.rulebook.specs.Book.{Book, book_of}
 use Rattle.rulebook.specs.Lookup.{IsAppended}
 use Rattle.rulebook.proofs.Appended.{entry_from-below, entry_from-appended, rule_at-appended}
 use Rattle.clause.specs.declared.ClauseRead.{ClauseRead}
-use Rattle.clause.specs.Clause.{word_length, found, clause_at}
+use Rattle.clause.specs.Clause.{found, clause_at}
 use Rattle.clause.specs.Sequence.{separated, Sequence, sequence_from, sequence_at}
 use Rattle.clause.specs.Calls.{counted, sequence_call}
 use Rattle.clause.specs.Laws.{AppendedNamesKeepSequences}

@@ -1,7 +1,7 @@
 -- The start of a reading: it is a start for as many slots, and what is read from it is what the definitions give, that of the call behind the checks before it.
 -- By cases on the trivia.
 use Prim.Native.Nat.{ℕ, ◌-◌, ◌≤◌}
-use Rattle.std.specs.Prelude.{Some, None, Result, Ok, Err, MatchResult}
+use Rattle.std.specs.Prelude.{Some, None, Result, Ok, Err}
 use mathlib.Core.Path.{◌≡◌, ◌∙◌, refl, sym, ap}
 use mathlib.Core.List.{List}
 use native.Mathlib.Omega.{arith}

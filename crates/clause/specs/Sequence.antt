@@ -12,7 +12,6 @@ use Rattle.bookform.specs.declared.ClauseRule.{ClauseRule}
 use Rattle.bookform.specs.declared.ClauseRule.TheVariants.{Bare, Parenthesized, Flexible, Unsupported}
 use Rattle.rulebook.specs.Book.{Book}
 use Rattle.clause.specs.declared.ClauseRecord.{ClauseRecord}
-use Rattle.clause.specs.declared.ClauseRead.{ClauseRead}
 use Rattle.clause.specs.declared.ClauseError.TheVariants.{Failed, Deep}
 use Rattle.clause.specs.declared.Separation.{Separation}
 use Rattle.clause.specs.Clause.{clause_at}

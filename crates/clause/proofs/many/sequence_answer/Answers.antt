@@ -1,5 +1,5 @@
 -- `sequence_answer` meets its contract: the verdicts on text and book, and then the clauses counted from the start on.
-use Rattle.std.proofs.Common.{◌∙◌, ap, sym, arith, MatchResult}
+use Rattle.std.proofs.Common.{◌∙◌, ap, sym, arith}
 use Rattle.std.proofs.lemmas.Result.{err_from_is_err_and, MatchResult-at_ok, MatchResult-at_err}
 use Rattle.refusal.specs.Answer.{given, and_then}
 use Rattle.refusal.proofs.Admission.{admits-length}
