@@ -1,5 +1,4 @@
--- Laws of texts at a place, in the terms of the code that reads there.
--- Assumes nothing.
+-- Laws of what the code reads of a text, by induction over its bytes, and of where a step comes to.
 use mathlib.Core.Path.{◌≡◌, refl, ap, sym, subst, ◌∙◌}
 use mathlib.Core.Bool.{Bool, true, false, true≢false}
 use mathlib.Core.List.{List, [], ◌∷◌}
@@ -19,12 +18,6 @@ use Rattle.lexer.specs.declared.Prefix.{Prefix}
 use Rattle.lexer.specs.declared.Prefix.TheVariants.{Omp, Acc}
 use Rattle.lexer.specs.Continuation.{prefix_bytes}
 use Rattle.lexer.specs.Steps.{step_of, Forward}
-
--- what is not 0 stands inside the text
-pub inside : (s : List ℕ) (k b : ℕ) → 0 < b → get_or s k 0 ≡ b → k < length s
-inside [] k b h e = omega arith
-inside (x ∷ s) zero b h e = omega arith
-inside (x ∷ s) (suc k) b h e = suc-le-suc (inside s k b h e)
 
 -- a text that begins with a word has room for it
 pub begins-fits : (f : ℕ → ℕ) (w xs : List ℕ) → begins f w xs ≡ true → length w ≤ length xs
