@@ -20,7 +20,7 @@ use Rattle.lexer.specs.declared.Prefix.{Prefix}
 use Rattle.validation.proofs.Lines.{over-not}
 use Rattle.validation.proofs.BlankTail.{blank-rest}
 use Rattle.validation.specs.declared.Checked.TheVariants.{Fine, WrongAt, Next}
-use Rattle.validation.specs.Validation.{continued, foreign, line_length, eol_bytes, is_over, check_end, check_line, fault_from, blank_from}
+use Rattle.validation.specs.Validation.{continued, foreign, line_length, eol_bytes, check_end, check_line, fault_from, blank_from}
 
 pub length-leading : (q : ℕ → Bool) (xs : List ℕ) → length (take (leading q xs) xs) ≡ leading q xs
 length-leading q xs = length-take-le (leading q xs) xs (leading_le q xs)

@@ -1,5 +1,5 @@
 -- The verdict says what the call gives, and the calls what the slots hold.
-use Rattle.std.proofs.Common.{◌≡◌, ◌∙◌, sym, arith, rules, length}
+use Rattle.std.proofs.Common.{◌∙◌, sym, arith, rules, length}
 use Rattle.source.proofs.Judging.{copy-refused, copy-done, copy-fits}
 use Rattle.source.proofs.copy_content.Goals as goal
 

@@ -1,6 +1,5 @@
 -- The verdict says what the call gives, and the calls what the slots hold.
-use Rattle.std.proofs.Common.{◌≡◌, ◌∙◌, ◌≤◌, ◌<◌, sym, arith, rules, length}
-use Rattle.refusal.specs.Answer.{max_length}
+use Rattle.std.proofs.Common.{◌∙◌, sym, arith, rules, length}
 use Rattle.source.proofs.Judging.{join-refused, join-done, join-fits}
 use Rattle.source.proofs.join_line.Goals as goal
 

@@ -1,5 +1,5 @@
 -- A comment's sign outside of literals ends the code; any other byte is one more of it.
-use Rattle.std.proofs.Common.{◌≡◌, ◌+◌, ◌∙◌, true, sym, arith, add-zero, drop, get_or}
+use Rattle.std.proofs.Common.{◌≡◌, ◌+◌, ◌∙◌, true, sym, arith, drop, get_or}
 use Rattle.validation.specs.declared.Quoting.TheVariants.{Outside}
 use Rattle.validation.specs.Validation.{is_inside, code_length}
 use Rattle.validation.proofs.Lines.{code-stop, code-more, code-end}

@@ -1,5 +1,5 @@
 -- A byte that stays is copied with the run behind it; a continuation is passed over.
-use Rattle.std.proofs.Common.{◌≡◌, ◌+◌, ◌-◌, ◌∙◌, ◌≤◌, sym, refl, ap, arith, rules, take, drop, length, length-drop, append_assoc}
+use Rattle.std.proofs.Common.{◌≡◌, ◌-◌, ◌∙◌, ◌≤◌, sym, refl, ap, arith, rules, take, drop, length, length-drop}
 use Rattle.std.proofs.Math.Seq.{length-take-le}
 use Rattle.std.proofs.lemmas.List.{append-nil}
 use Rattle.source.specs.Joining.{any_cut, collapsed}

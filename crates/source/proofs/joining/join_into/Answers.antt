@@ -1,5 +1,5 @@
 -- A byte that stays is written with its place; a continuation is passed over.
-use Rattle.std.proofs.Common.{◌≡◌, ◌+◌, ◌∙◌, ◌<◌, ◌≤◌, sym, arith, take, drop, length, add-one}
+use Rattle.std.proofs.Common.{◌∙◌, ◌<◌, ◌≤◌, sym, arith, length, add-one}
 use Rattle.std.proofs.Math.Seq.{length-take-le, take-suc-set}
 use Rattle.std.proofs.lemmas.List.{append-nil}
 use Rattle.ascii.proofs.Slots.{pushed}

@@ -1,6 +1,5 @@
 -- A run of plain bytes stays.
 use Rattle.std.proofs.Common.{arith}
-use Rattle.source.specs.Staying.{Stays}
 use Rattle.source.proofs.Staying.{stays-run}
 use Rattle.source.proofs.runs.plain_end.Goals as goal
 

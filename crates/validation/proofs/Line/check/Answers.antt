@@ -1,5 +1,5 @@
 -- The line's end is found first; behind the first line a foreign sentinel is a fault, and else what follows decides.
-use Rattle.std.proofs.Common.{◌≡◌, ◌∙◌, sym, arith, ltb}
+use Rattle.std.proofs.Common.{ltb}
 use borrow.Author.Tests.{lt-ltb, le-ltb}
 use Rattle.validation.proofs.Checking.{check-at}
 use Rattle.validation.proofs.Line.check.Goals as goal
