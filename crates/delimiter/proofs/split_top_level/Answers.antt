@@ -1,9 +1,9 @@
 -- `split_top_level` meets its contract: the checks in order, then the items, and zeros in all other slots.
-use Rattle.std.proofs.Common.{◌≡◌, ◌+◌, ◌-◌, ◌/◌, ◌++◌, [], length, take, replicate, rules, arith}
+use Rattle.std.proofs.Common.{◌≡◌, ◌/◌, [], length, rules, arith}
 use Rattle.std.proofs.lemmas.Grind.{common_steps}
 use Rattle.refusal.specs.Verdict.{or_refused}
 use Rattle.delimiter.specs.Split.{split_style}
-use Rattle.delimiter.specs.Cutting.{split_verdict, remaining, laid, in_slots, written_by}
+use Rattle.delimiter.specs.Cutting.{split_verdict, remaining, laid, in_slots}
 use Rattle.delimiter.proofs.CallLaws.{written-twice, call-told}
 use Rattle.delimiter.proofs.split_top_level.Goals as goal
 

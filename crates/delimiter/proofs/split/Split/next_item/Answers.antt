@@ -16,7 +16,7 @@ returns-in_err-item-clause-from_value c =
     let s = c.args.self.now in
     let p = err_from_is_err_and c.from_residual-in_err-item.result c.from_residual-in_err-item.ensures.1 in
     rw (p.1, p.2) (remaining-in _ _ _ _ _ _ _ c.requires ∙ c.in_ok-end.ensures.by_index c.args.room
-        ∙ c.in_err-item.ensures.by_index (remaining s.style s.text.now s.separator s.angles (c.args.room - 1) (separator_byte s.separator) (c.in_ok-end.end + 1)))
+    ∙ c.in_err-item.ensures.by_index (remaining s.style s.text.now s.separator s.angles (c.args.room - 1) (separator_byte s.separator) (c.in_ok-end.end + 1)))
 
 pub returns-clause-from_value : goal.returns-clause-from_value
 returns-clause-from_value c =
