@@ -19,10 +19,6 @@ use Rattle.bookform.specs.Format.{stepped, rule_for, is_known, clauses_left, dir
 use Rattle.bookform.specs.Standing.{stands, is_of_name, stands_behind, Standing, IsName, NameEnds, Passed}
 use Rattle.bookform.proofs.Steps.{at_least, bad-later}
 
--- what follows from a test that fails
-pub not_so : {X : Type 0} → false ≡ true → X
-not_so h = let z : ◌≡◌ {A = ℕ} 0 1 = cc in absurd (omega arith)
-
 -- a byte behind one of a name may stand there, and is of the name then
 behind-stands : (between before b : ℕ) → is_of_name between before ≡ true → stands_behind between before b ≡ true → stands between before b ≡ true
 behind-stands between before b f h = go (is_word b) (eqb b between) (is_word before) (eqb before between) f h
@@ -56,18 +52,6 @@ module _ (between : ℕ) (bs : List ℕ) (from : ℕ) where
   standing-next to f t s =
       let g = behind-stands between (get_or bs (to - 1) 0) (get_or bs to 0) f t in
       (stands_of between (get_or bs (to - 1) 0) (get_or bs to 0) g, standing-more to g s)
-
--- two runs that meet or overlap
-pub standing-both : (between : ℕ) (bs : List ℕ) (from a b to : ℕ) → a ≤ b → Standing between bs from b → Standing between bs a to → Standing between bs from to
-standing-both between bs from a b to h s t i f g = by_cases (ltb i b) (λ l. s i f (ltb-true i b l)) (λ l. t i (omega (arith, ltb-false i b l)) g)
-
--- the byte before a place of a run that begins behind a byte of a word
-pub of-before : (between : ℕ) (bs : List ℕ) (from i at : ℕ) → from ≤ at → at ≤ i → is_word (get_or bs (from - 1) 0) ≡ true → Standing between bs from i
-    → is_of_name between (get_or bs (at - 1) 0) ≡ true
-of-before between bs from i at h g w s =
-    by_cases (ltb from at)
-    (λ l. let k = ltb-true from at l in stands_of between (get_or bs (at - 1 - 1) 0) (get_or bs (at - 1) 0) (s (at - 1) (omega arith) (omega arith)))
-    (λ l. let e : at ≡ from = omega (arith, ltb-false from at l) in rw (e, w) refl)
 
 -- the byte at a place and k behind it may each stand behind the one before
 module _ (between : ℕ) (bs : List ℕ) (at : ℕ) (first : is_of_name between (get_or bs (at - 1) 0) ≡ true) where

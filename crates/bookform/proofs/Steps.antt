@@ -1,21 +1,20 @@
 -- Laws of a book's form: what a count of entries or of bytes waits for, and the first bad byte at a place, in the terms of a loop.
 -- Assumes nothing.
 use mathlib.Core.Path.{◌≡◌, refl}
-use mathlib.Core.Bool.{false, Bool, true, cond, ◌||◌, ◌&&◌}
+use mathlib.Core.Bool.{false, Bool, true, cond}
 use Rattle.std.specs.Prelude.{Option, Some, None}
 use mathlib.Core.List.{List}
-use Prim.Native.Nat.{ℕ, zero, suc, ◌+◌, ◌-◌, ◌<◌, ◌≤◌}
-use native.Mathlib.Numerals.{add-one, unary_clauses}
+use Prim.Native.Nat.{ℕ, ◌+◌, ◌<◌, ◌≤◌}
+use native.Mathlib.Numerals.{add-one}
 use native.Mathlib.Omega.{arith}
 use lib.ListN.{length, drop, get_or, drop_of_length-le}
 use lib.Seq.{drop-cons}
-use lib.Dec.{eqb, ltb, leb}
+use lib.Dec.{ltb, leb}
 use borrow.Author.Tests.{leb-true, ltb-true, ltb-false, lt-ltb}
-use Rattle.ascii.specs.Ascii.{is_word}
 use Rattle.ascii.proofs.Flags.{by_cases, and_left}
 use Rattle.bookform.specs.declared.Expect.{Expect}
-use Rattle.bookform.specs.declared.Expect.TheVariants.{HeaderByte, ClauseCount, DirectiveLength, DirectiveName, Rule, ClauseName}
-use Rattle.bookform.specs.Format.{is_header, is_length, clauses_left, directives_left, when_good, name_step, word_step, stepped, ended_at, bad_from}
+use Rattle.bookform.specs.declared.Expect.TheVariants.{HeaderByte, ClauseCount}
+use Rattle.bookform.specs.Format.{is_header, is_length, directives_left, when_good, stepped, ended_at, bad_from}
 
 -- what cannot be, and what a good byte leads to
 pub never : {X : Type 0} (p : ℕ) → ◌≡◌ {A = Option ℕ} (Some p) None → X
@@ -28,24 +27,6 @@ when-next false e next h = let z : ◌≡◌ {A = ℕ} 0 1 = cc in absurd (omega
 -- a name has a byte at least
 pub at_least : (b : ℕ) → is_length b ≡ true → 1 ≤ b
 at_least b h = leb-true 1 b (and_left (leb 1 b) (leb b 64) h)
-
--- a count that is not 0
-pub clauses-more : (c : ℕ) → (c ≡ 0 → ⊥) → clauses_left c ≡ Rule (c - 1)
-clauses-more zero h = absurd (h refl)
-clauses-more (suc c) h = simp unary_clauses
-
-pub directives-more : (d c : ℕ) → (d ≡ 0 → ⊥) → directives_left d c ≡ DirectiveLength (d - 1) c
-directives-more zero c h = absurd (h refl)
-directives-more (suc d) c h = simp unary_clauses
-
-pub name-more : (n : ℕ) (w : Bool) (d c b : ℕ) → (n ≡ 0 → ⊥)
-    → name_step n w d c b ≡ when_good (is_word b || eqb b 32 && w) (DirectiveName (n - 1) (is_word b) d c)
-name-more zero w d c b h = absurd (h refl)
-name-more (suc n) w d c b h = simp unary_clauses
-
-pub word_more : (n c b : ℕ) → (n ≡ 0 → ⊥) → word_step n c b ≡ when_good (is_word b) (ClauseName (n - 1) c)
-word_more zero c b h = absurd (h refl)
-word_more (suc n) c b h = simp unary_clauses
 
 -- the byte at a place is bad, or leads on; or the book ends there
 module _ (bs : List ℕ) (e : Expect) (at : ℕ) where

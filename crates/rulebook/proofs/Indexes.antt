@@ -8,7 +8,7 @@ use Rattle.rulebook.specs.declared.Header.{Header}
 use Rattle.bookform.specs.declared.Expect.TheVariants.{HeaderByte}
 use Rattle.bookform.specs.Format.{bad_from, HasForm}
 use Rattle.rulebook.specs.Book.{place_after, entries_in, clauses_of, header_of, book_of}
-use Rattle.rulebook.specs.Check.{repeat_from, or_else, book_fault}
+use Rattle.rulebook.specs.Check.{repeat_from, book_fault}
 use Rattle.rulebook.proofs.Finding.{book-directives, book-clauses}
 
 module _ (bs : List ℕ) where

@@ -9,7 +9,7 @@ use lib.ListN.{length, drop, get_or, length-drop}
 use Rattle.std.proofs.lemmas.List.{length-take-le}
 use Rattle.ascii.specs.declared.Range.{Range}
 use Rattle.ascii.specs.Text.{part}
-use Rattle.rulebook.specs.Book.{rule_led, name_at, entry_at, entries_from, names_from, place_after, Laid}
+use Rattle.rulebook.specs.Book.{name_at, entry_at, entries_from, names_from, place_after, Laid}
 
 module _ (lead : ℕ) (bs : List ℕ) where
   -- where entries lie, the first begins inside the book
@@ -36,23 +36,6 @@ module _ (lead : ℕ) (bs : List ℕ) where
   laid_next n m at r e q h =
       let k = rw (e, add-one) at h in
       rw q (omega (arith, k.0), k.1, k.2)
-
-  pub place_none : (n at : ℕ) → n ≡ 0 → place_after lead n at bs ≡ at
-  unfolding place_after
-  place_none n at e = rw e
-
-  pub place-next : (n m at : ℕ) (r : Range) → n ≡ m + 1 → r ≡ name_at lead at bs → place_after lead n at bs ≡ place_after lead m r.end bs
-  unfolding place_after
-  place-next n m at r e q = rw (q, e, add-one)
-
-  pub entries_next : (n m at : ℕ) (r : Range) → n ≡ m + 1 → r ≡ name_at lead at bs
-      → entries_from lead n at bs ≡ record { at = at; rule = rule_led lead (get_or bs at 0); name = part bs r } ∷ entries_from lead m r.end bs
-  unfolding entries_from
-  entries_next n m at r e q = rw (q, e, add-one m)
-
-  pub entries_none : (n at : ℕ) → n ≡ 0 → entries_from lead n at bs ≡ []
-  unfolding entries_from
-  entries_none n at e = rw e
 
   pub names_next : (n m at : ℕ) (r : Range) → n ≡ m + 1 → r ≡ name_at lead at bs → names_from lead n at bs ≡ part bs r ∷ names_from lead m r.end bs
   unfolding entries_from

@@ -1,5 +1,5 @@
 -- `rulebook::checked`: a fault of the form is the book's.
-use Rattle.std.proofs.Common.{◌≡◌, sym, ◌∙◌, refl}
+use Rattle.std.proofs.Common.{sym, ◌∙◌, refl}
 use Rattle.rulebook.proofs.Indexes.{fault-form}
 use Rattle.rulebook.proofs.checked.Goals as goal
 

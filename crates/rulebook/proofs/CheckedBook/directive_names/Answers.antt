@@ -1,5 +1,5 @@
 -- `rulebook::CheckedBook::directive_names`: the book's directives are those of its header, which lie inside it.
-use Rattle.std.proofs.Common.{◌≡◌, map, ap, sym, ◌∙◌}
+use Rattle.std.proofs.Common.{map, ap, sym, ◌∙◌}
 use Rattle.rulebook.specs.Book.{Entry}
 use Rattle.rulebook.proofs.Forms.{valid-form}
 use Rattle.rulebook.proofs.Finding.{header-directives, book-directives}

@@ -1,5 +1,5 @@
 -- `rulebook::CheckedBook::find_clause`: what is found among the clause entries is the entry of the definition.
-use Rattle.std.proofs.Common.{◌≡◌, sym, ◌∙◌, refl, arith}
+use Rattle.std.proofs.Common.{sym, ◌∙◌, refl, arith}
 use Rattle.rulebook.specs.Book.{header_of}
 use Rattle.rulebook.proofs.Forms.{valid-form}
 use Rattle.rulebook.proofs.Finding.{header-clauses, clause-found, entry_found, entry-missing}

@@ -1,5 +1,5 @@
 -- `rulebook::CheckedBook::find_directive`: the index of what is found among the directive entries.
-use Rattle.std.proofs.Common.{◌≡◌, ap, sym, ◌∙◌}
+use Rattle.std.proofs.Common.{ap, sym, ◌∙◌}
 use Rattle.rulebook.proofs.Forms.{valid-form}
 use Rattle.rulebook.proofs.Finding.{index_of, header-directives, directive-index}
 use Rattle.rulebook.proofs.CheckedBook.find_directive.Goals as goal

@@ -1,5 +1,5 @@
 -- `rulebook::index::signature`: the next byte is added, and the sums of a whole name are its signature.
-use Rattle.std.proofs.Common.{◌≡◌, length, sym, ◌∙◌, arith}
+use Rattle.std.proofs.Common.{sym, ◌∙◌, arith}
 use Rattle.rulebook.proofs.Signatures.{signed-next, signed-end}
 use Rattle.rulebook.proofs.index.signature.Goals as goal
 

@@ -1,5 +1,5 @@
 -- `rulebook::lookup::same`: all pairs of bytes compare equal, asked from the end; or the lengths differ.
-use Rattle.std.proofs.Common.{◌≡◌, length, reverse, sym, ◌∙◌, arith, rules, tests, ne_eqb}
+use Rattle.std.proofs.Common.{◌≡◌, length, reverse, ◌∙◌, arith, rules, tests, ne_eqb}
 use Rattle.std.specs.List.{list_all, zip}
 use Rattle.std.proofs.lemmas.Iterator.{YieldsList-from_zip}
 use Rattle.std.proofs.lemmas.Iterator.Adapters.{YieldsList-from_rev_slice}

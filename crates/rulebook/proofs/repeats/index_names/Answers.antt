@@ -1,5 +1,5 @@
 -- `rulebook::repeats::index_names`: the directives of the header repeat nothing, then its clauses; the index tells of both.
-use Rattle.std.proofs.Common.{◌≡◌, sym, ◌∙◌, refl, arith}
+use Rattle.std.proofs.Common.{sym, ◌∙◌, refl, arith}
 use Rattle.std.proofs.lemmas.Result.{err_from_is_err_and}
 use Rattle.rulebook.specs.Book.{header_of}
 use Rattle.rulebook.proofs.Finding.{header-directives, header-clauses}

@@ -1,11 +1,11 @@
 -- `rulebook::repeats::repeat_among`: a turn has the next name; it repeats an earlier one, or the index tells of one entry more.
-use Rattle.std.proofs.Common.{◌≡◌, ℕ, true, false, [], ◌∷◌, ◌+◌, ◌-◌, ◌<◌, ◌≤◌, length, inl, ap, sym, ◌∙◌, refl, arith, rules}
+use Rattle.std.proofs.Common.{◌≡◌, ℕ, true, false, ◌+◌, ◌-◌, length, inl, ap, sym, ◌∙◌, refl, arith}
 use Rattle.ascii.specs.Ascii.{fold}
 use Rattle.ascii.specs.Text.{part}
 use Rattle.rulebook.specs.Book.{name_at, names_from, entries_from, place_after}
-use Rattle.rulebook.specs.Check.{is_named, repeat_from}
+use Rattle.rulebook.specs.Check.{is_named}
 use Rattle.rulebook.specs.Signature.{signature}
-use Rattle.rulebook.proofs.Laying.{length-names, Turn, named-turn, names-end, place-snoc}
+use Rattle.rulebook.proofs.Laying.{length-names, named-turn, names-end, place-snoc}
 use Rattle.rulebook.proofs.Repeating.{repeat-here, repeat-later, repeat-none}
 use Rattle.rulebook.proofs.Indexing.{indexed-none, indexed-next}
 use Rattle.rulebook.proofs.repeats.repeat_among.Goals as goal

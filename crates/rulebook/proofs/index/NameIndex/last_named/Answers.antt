@@ -1,6 +1,5 @@
 -- `rulebook::index::NameIndex::last_named`: the slot tells of an entry that has the name, or its link of the last one before it with the same signature.
-use Rattle.std.proofs.Common.{◌≡◌, ap, sym, ◌∙◌, refl, arith}
-use Rattle.rulebook.specs.Index.{last_slot}
+use Rattle.std.proofs.Common.{sym, ◌∙◌, arith}
 use Rattle.rulebook.proofs.Indexing.{inside, found-here, link-less, found-before, unreached}
 use Rattle.rulebook.proofs.index.NameIndex.last_named.Goals as goal
 

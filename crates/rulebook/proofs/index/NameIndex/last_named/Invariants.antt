@@ -1,5 +1,5 @@
 -- `rulebook::index::NameIndex::last_named`: no entry behind the k first has the name, and the slot tells of the last of these with its signature.
-use Rattle.std.proofs.Common.{◌≡◌, ℕ, ◌<◌, ◌≤◌}
+use Rattle.std.proofs.Common.{◌≡◌, ℕ, ◌≤◌}
 use Rattle.ascii.specs.Text.{comparing}
 use Rattle.rulebook.specs.Signature.{signature}
 use Rattle.rulebook.specs.Index.{last_slot, last_named}

@@ -1,5 +1,5 @@
 -- `rulebook::names::Names`: the next name is that of the entry at the place, and the entries behind it are left.
-use Rattle.std.proofs.Common.{◌≡◌, ◌+◌, ◌-◌, [], sym, ◌∙◌, arith, rules}
+use Rattle.std.proofs.Common.{◌≡◌, ◌+◌, ◌-◌, sym, ◌∙◌, arith, rules}
 use Rattle.rulebook.proofs.Laying.{laid-name, laid_next, names_next, names_none}
 use Rattle.rulebook.proofs.names.NamesIterator.next.Goals as goal
 
