@@ -1,12 +1,13 @@
 -- A slice that is filled from the front: its first k slots are written, and `take k slots ++ what is still to come` is the whole.
--- `pushed` is a store at k, `complete` the end; `zeros-more` and `zeros-none` are zeros to come, `part-next` and `part_none` a part of a list. Assumes nothing.
-use mathlib.Core.Path.{◌≡◌, refl}
+-- `pushed` is a store at k, `complete` the end; `zeros-behind` is a fill with zeros behind the first n. Assumes nothing.
+use mathlib.Core.Path.{◌≡◌, ◌∙◌}
 use mathlib.Core.List.{List, [], ◌∷◌, ◌++◌, append_assoc, append-nil}
-use Prim.Native.Nat.{ℕ, suc, ◌+◌, ◌-◌, ◌<◌, ◌≤◌}
+use Prim.Native.Nat.{ℕ, ◌+◌, ◌-◌, ◌<◌, ◌≤◌}
 use native.Mathlib.Numerals.{add-one}
 use native.Mathlib.Omega.{arith}
-use lib.ListN.{length, take, drop, get_or, set, replicate}
-use lib.Seq.{take-suc-set, take_all, length-take-le, drop-cons}
+use lib.ListN.{length, take, set, replicate, drop_of_length-le}
+use lib.Seq.{take-suc-set, take_all, length-take-le, drop-drop}
+use borrow.Rule.Slice.PartMut.{put_mid, post_of}
 use Rattle.ascii.specs.Text.{padded}
 
 module _ {A : Type 0} where
@@ -16,29 +17,14 @@ module _ {A : Type 0} where
   pub complete : (t : List A) (k : ℕ) → length t ≤ k → take k t ++ [] ≡ t
   complete t k h = rw (take_all, append-nil)
 
-  pub zeros-more : (z : A) (n i : ℕ) → i < n → replicate (n - i) z ≡ z ∷ replicate (n - (i + 1)) z
-  zeros-more z n i h =
-      let e : n - i ≡ suc (n - (i + 1)) = omega arith in
-      rw e refl
-
-  pub zeros-none : (z : A) (n i : ℕ) → n ≤ i → replicate (n - i) z ≡ []
-  zeros-none z n i h =
-      let e : n - i ≡ 0 = omega arith in
-      rw e refl
+  -- all but the first n slots are zeroed
+  pub zeros-behind : (z : A) (xs ys : List A) (n : ℕ) → n ≤ length xs → ys ≡ replicate (length xs - n) z → put_mid n (length xs - n) xs ys ≡ take n xs ++ replicate (length xs - n) z
+  zeros-behind z xs ys n h e =
+      let m : n + (length xs - n) ≡ length xs = omega arith in
+      let none : post_of n (length xs - n) xs ≡ [] = drop-drop (length xs - n) n xs ∙ rw m (drop_of_length-le xs (omega arith)) in
+      rw (none, append-nil, e)
 
   -- the first n slots hold ys, the others zeros
   pub padded-take : (z : A) (xs : List A) (n : ℕ) {ys : List A} → n ≤ length xs → take n xs ≡ ys
       → take n xs ++ replicate (length xs - n) z ≡ padded z (length xs) ys
   padded-take z xs n h e = rw (← e, length-take-le)
-
-  -- a part of a list, one by one
-  pub part-next : (z : A) (s : List A) (i end : ℕ) → i < end → end ≤ length s → take (end - i) (drop i s) ≡ get_or s i z ∷ take (end - (i + 1)) (drop (i + 1) s)
-  part-next z s i end h g =
-      let n : end - i ≡ suc (end - (i + 1)) = omega arith in
-      let l : i < length s = omega arith in
-      rw (n, drop-cons s i z, add-one i) refl
-
-  pub part_none : (s : List A) (i end : ℕ) → end ≤ i → take (end - i) (drop i s) ≡ []
-  part_none s i end h =
-      let n : end - i ≡ 0 = omega arith in
-      rw n refl

@@ -1,7 +1,6 @@
 -- A table that holds a function's values in order, and what stands at each of its places. A table written out is such a table where
 -- antt computes the two alike. Assumes nothing.
 use mathlib.Core.Path.{◌≡◌, ap, sym, ◌∙◌}
-use mathlib.Core.Bool.{Bool, true, cond}
 use mathlib.Core.List.{List, [], ◌∷◌}
 use Prim.Native.Nat.{ℕ, zero, suc, ◌+◌, ◌<◌}
 use native.Mathlib.Nat.{add-zero, zero-add, add-suc, suc-add, le_of_suc-le-suc, not-suc-le-zero}
@@ -25,7 +24,3 @@ module _ {A : Type 0} (f : ℕ → A) (z : A) where
 -- two functions that have the same table agree below its size
 pub agree : {A : Type 0} (f g : ℕ → A) (n : ℕ) → values f 0 n ≡ values g 0 n → (k : ℕ) → k < n → f k ≡ g k
 agree f g n e k h = sym (at f (f 0) n k h) ∙ ap (λ l. get_or l k (f 0)) e ∙ at g (f 0) n k h
-
--- two functions agree where a test holds, if putting the one for the other there changes no value of the table
-pub agree-where : {A : Type 0} (test : ℕ → Bool) (f g : ℕ → A) (n : ℕ) → values (λ k. cond (test k) (f k) (g k)) 0 n ≡ values g 0 n → (k : ℕ) → k < n → test k ≡ true → f k ≡ g k
-agree-where test f g n e k h t = rw t at (agree (λ k. cond (test k) (f k) (g k)) g n e k h)

@@ -1,17 +1,17 @@
 -- Laws of runs, comparing and the first high byte, at a place of a text in the terms of a loop; of trimming; and of dropping to a place.
 -- Assumes nothing.
 use mathlib.Core.Path.{◌≡◌, refl, ap, ◌∙◌}
-use mathlib.Core.Bool.{Bool, true, false, cond, ◌&&◌}
+use mathlib.Core.Bool.{Bool, true, false, cond, ◌&&◌, and-false}
 use Rattle.std.specs.Prelude.{Some, None}
 use mathlib.Core.List.{List, [], ◌∷◌, ◌++◌, reverse, reverse-append, reverse-cons}
 use Prim.Native.Nat.{ℕ, zero, suc, ◌+◌, ◌-◌, ◌<◌, ◌≤◌}
 use native.Mathlib.Nat.{add-zero, zero-add}
 use native.Mathlib.Numerals.{add-one}
 use native.Mathlib.Omega.{arith}
-use lib.ListN.{length, take, drop, get_or, length-reverse, length-drop, drop_of_length-le}
+use lib.ListN.{length, take, drop, get_or, length-reverse, length-drop}
 use lib.Seq.{drop-cons, split_at, append_snoc}
 use lib.Dec.{eqb, ltb, leb}
-use Rattle.std.specs.List.{prefix_len}
+use Rattle.std.specs.List.{prefix_len, list_all, zip}
 use Rattle.std.proofs.lemmas.List.Sums.{prefix_len_is, suffix_len_is}
 use borrow.Author.Tests.{lt-ltb, le-ltb, leb-true, leb-false, eq-eqb, ne_eqb, eqb-true, eqb-false}
 use Rattle.ascii.specs.declared.Range.{Range}
@@ -98,20 +98,18 @@ leading-apart p xs h =
     let f = leading-bounded p (reverse rest) b (reverse (take k xs)) (leading-stops p xs h) in
     omega (arith, rw (← e) at f, length-reverse rest, length-drop (suc k) xs)
 
--- comparing
-pub begins-all : (f : ℕ → ℕ) (w s : List ℕ) (j : ℕ) → length w ≤ j → begins f (drop j w) s ≡ true
+-- comparing: byte by byte, where the text is as long as the word
+pub begins-zip : (f : ℕ → ℕ) (w s : List ℕ) → length w ≤ length s → begins f w s ≡ list_all (λ p. eqb (f p.0) (f p.1)) (zip w s)
 unfolding begins
-begins-all f w s j h = rw (drop_of_length-le w h)
+begins-zip f [] s h = refl
+begins-zip f (x ∷ w) [] h = absurd (omega arith)
+begins-zip f (x ∷ w) (y ∷ s) h = ap (λ b. eqb (f x) (f y) && b) (begins-zip f w s (omega arith))
 
-module _ (f : ℕ → ℕ) (w s : List ℕ) (j i : ℕ) where
-  pub begins-short : j < length w → length s ≤ i → begins f (drop j w) (drop i s) ≡ false
-  unfolding begins
-  begins-short h g = rw (drop-cons w j 0, drop_of_length-le s g)
-
-  pub begins-next : j < length w → i < length s
-      → begins f (drop j w) (drop i s) ≡ (eqb (f (get_or w j 0)) (f (get_or s i 0)) && begins f (drop (j + 1) w) (drop (i + 1) s))
-  unfolding begins
-  begins-next h g = rw (add-one, add-one, drop-cons w j 0, drop-cons s i 0)
+pub begins-longer : (f : ℕ → ℕ) (w s : List ℕ) → length s < length w → begins f w s ≡ false
+unfolding begins
+begins-longer f [] s h = absurd (omega arith)
+begins-longer f (x ∷ w) [] h = refl
+begins-longer f (x ∷ w) (y ∷ s) h = rw (begins-longer f w s (omega arith), and-false)
 
 -- the first byte above 127 is where the run of the others ends
 pub high_some : (at : ℕ) (xs : List ℕ) → leading is_low xs < length xs → first_high at xs ≡ Some (at + leading is_low xs)

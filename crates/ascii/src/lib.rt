@@ -98,19 +98,12 @@ pub fn begins_at(text: &[u8], at: usize, word: &[u8], ignore_case: bool) -> bool
     requires { at ≤ length text.now }
     ensures { result ≡ begins (comparing ignore_case) word.now (drop at text.now) }
 {
-    let mut i = at;
-    let mut j = 0;
-    while j < word.len() {
-        if i >= text.len() {
-            return false;
-        }
-        if !same_byte(word[j], text[i], ignore_case) {
-            return false;
-        }
-        i += 1;
-        j += 1;
-    }
-    true
+    let rest = &text[at..];
+    word.len() <= rest.len()
+        && word
+            .iter()
+            .zip(rest)
+            .all(|(a, b)| same_byte(*a, *b, ignore_case))
 }
 
 // The same for a long run of a set whose question is a mere comparison: one branch for eight bytes.

@@ -3,16 +3,15 @@
 use mathlib.Core.Path.{◌≡◌, refl, sym, ap, ◌∙◌}
 use mathlib.Core.Bool.{Bool, true, false, cond}
 use Rattle.std.specs.Prelude.{Option, Some, None, Ok, Err}
-use mathlib.Core.List.{List, [], ◌++◌, append-nil}
+use mathlib.Core.List.{List, ◌++◌}
 use Prim.Native.Nat.{ℕ, suc, ◌+◌, ◌-◌, ◌≤◌, ◌<◌}
 use native.Mathlib.Nat.{sub-zero}
 use native.Mathlib.Omega.{arith}
-use lib.ListN.{length, take, replicate, drop_of_length-le}
-use lib.Seq.{drop-drop}
+use lib.ListN.{length, take, replicate}
 use lib.Dec.{ltb}
-use borrow.Rule.Slice.PartMut.{put_mid, post_of}
+use borrow.Rule.Slice.PartMut.{put_mid}
 use borrow.Author.Tests.{ltb-false}
-use Rattle.ascii.proofs.Slots.{padded-take}
+use Rattle.ascii.proofs.Slots.{padded-take, zeros-behind}
 use Rattle.ascii.proofs.Flags.{or-none}
 use Rattle.refusal.specs.declared.Reason.TheVariants.{InvalidLine}
 use Rattle.refusal.specs.declared.Refusal.{Refusal}
@@ -48,13 +47,6 @@ room-fine : (b : Bool) (v : Verdict) → cond b short_buffer v ≡ fine → b �
 room-fine false v e = refl
 room-fine true v e = let z : ◌≡◌ {A = ℕ} 0 1 = cc in absurd (omega arith)
 
--- a buffer of which all but the first n slots are filled with zeros
-zeros-behind : (t ys : List ℕ) (n : ℕ) → n ≤ length t → ys ≡ replicate (length t - n) 0 → put_mid n (length t - n) t ys ≡ take n t ++ replicate (length t - n) 0
-zeros-behind t ys n h e =
-    let m : n + (length t - n) ≡ length t = omega arith in
-    let none : post_of n (length t - n) t ≡ [] = drop-drop (length t - n) n t ∙ rw m (drop_of_length-le t (omega arith)) in
-    rw (none, append-nil, e)
-
 module _ (l : Language) (p : Prefix) (line : List ℕ) (text_slots map_slots : ℕ) where
   join-answer : join_answer l p line text_slots map_slots ≡ or_refused (join_verdict l p line text_slots map_slots) (given (length (joined_text l line)))
   unfolding join_answer join_verdict
@@ -75,8 +67,8 @@ module _ (l : Language) (p : Prefix) (line : List ℕ) (text_slots map_slots : �
       → record { answer = given n; text = put_mid n (length t - n) t text; map = put_mid (n + 1) (length m - (n + 1)) m map } ≡ join_call l p line text_slots map_slots
   unfolding join_call
   join-done n t m text map e u v h g c x y f k =
-      let a = zeros-behind t text n (omega arith) f ∙ padded-take 0 t n (omega arith) x in
-      let b = zeros-behind m map (n + 1) (omega arith) k ∙ padded-take 0 m (n + 1) (omega arith) y in
+      let a = zeros-behind 0 t text n (omega arith) f ∙ padded-take 0 t n (omega arith) x in
+      let b = zeros-behind 0 m map (n + 1) (omega arith) k ∙ padded-take 0 m (n + 1) (omega arith) y in
       rw (join-answer, e, a, b, u, v, c)
 
   pub join-fits : join_verdict l p line text_slots map_slots ≡ fine → (length line ≤ max_length) × (length line ≤ text_slots) × (length line < map_slots)
@@ -103,7 +95,7 @@ module _ (content : List ℕ) (size : ℕ) where
       → copy ≡ replicate (length t - n) 0 → record { answer = given n; copy = put_mid n (length t - n) t copy } ≡ copy_call content size
   unfolding copy_call
   copy-done n t copy e u h c x f =
-      let a = zeros-behind t copy n (omega arith) f ∙ padded-take 0 t n (omega arith) x in
+      let a = zeros-behind 0 t copy n (omega arith) f ∙ padded-take 0 t n (omega arith) x in
       rw (copy-answer, e, a, u, c)
 
   pub copy-fits : copy_verdict content size ≡ fine → length content ≤ size

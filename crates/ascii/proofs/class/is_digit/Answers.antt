@@ -1,0 +1,7 @@
+-- Question 4 of a byte is answered by its class.
+use Rattle.std.proofs.Common.{rules}
+use Rattle.ascii.proofs.Classes.{told}
+use Rattle.ascii.proofs.class.is_digit.Goals as goal
+
+pub returns : goal.returns
+returns c = rw c.class_of.ensures (told 4 c.args.b (search rules))

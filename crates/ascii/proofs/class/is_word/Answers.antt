@@ -1,0 +1,7 @@
+-- Question 5 of a byte is answered by its class.
+use Rattle.std.proofs.Common.{rules}
+use Rattle.ascii.proofs.Classes.{told}
+use Rattle.ascii.proofs.class.is_word.Goals as goal
+
+pub returns : goal.returns
+returns c = rw c.class_of.ensures (told 5 c.args.b (search rules))
