@@ -59,7 +59,7 @@ clause-found book text at c strict h = go (eqb (word_length book text at) 0) (fo
   where
     go : (b : Bool) (o : Option ℕ) → found book text at ≡ o
         → cond b (failed Reason.NoClause at)
-          (argument book.ignores_case text at (at + word_length book text at) (index_or o) (rule_or Unsupported o book.clauses) (skip book.ignores_case text (at + word_length book text at)))
+        (argument book.ignores_case text at (at + word_length book text at) (index_or o) (rule_or Unsupported o book.clauses) (skip book.ignores_case text (at + word_length book text at)))
         ≡ Ok c
         → (i : ℕ) × (found book text at ≡ Some i) × (c.clause.entry ≡ i)
     go true o e h = absurd (cc)
