@@ -3,6 +3,8 @@
 use Prim.Native.Nat.{ℕ, ◌+◌, ◌≤◌}
 use mathlib.Core.Bool.{Bool, true, false, cond}
 use mathlib.Core.Path.{◌≡◌, refl}
+use Rattle.std.specs.Prelude.{Result, Ok, Err}
+use Rattle.refusal.specs.declared.Refusal.{Refusal}
 use mathlib.Core.List.{List}
 use native.Mathlib.Omega.{arith}
 use lib.ListN.{length, drop}
@@ -13,8 +15,6 @@ use Rattle.refusal.proofs.Answers.{never, Sure, sure-cond, sure-fault, sure-admi
 use Rattle.lexer.specs.declared.Language.{Language}
 use Rattle.lexer.specs.declared.Language.TheVariants.{C, FortranFree, FortranFixed}
 use Rattle.lexer.specs.declared.Prefix.{Prefix}
-use Rattle.lexer.specs.declared.Skipped.{Skipped}
-use Rattle.lexer.specs.declared.Skipped.TheVariants.{Past, OpenAt}
 use Rattle.lexer.specs.Continuation.{prefix_bytes, opening_sentinel}
 use Rattle.lexer.specs.Trivia.{skip}
 use Rattle.lexer.specs.Steps.{trivia_step, passed_some, some_trivia_step, word_step, pragma_step}
@@ -43,9 +43,9 @@ Within text at = at ≤ length text
 some_end : (f : Bool) (text : List ℕ) (at : ℕ) → Sure (Within text) (some_trivia_step f text at)
 some_end f text at = go (skip f text at) refl
   where
-    go : (s : Skipped) → skip f text at ≡ s → Sure (Within text) (passed_some at s)
-    go (OpenAt p) e = tt
-    go (Past p) e = more (eqb p at) refl
+    go : (s : Result ℕ Refusal) → skip f text at ≡ s → Sure (Within text) (passed_some at s)
+    go (Err r) e = tt
+    go (Ok p) e = more (eqb p at) refl
       where
         more : (b : Bool) → eqb p at ≡ b → Sure (Within text) (cond b (refused 7 at) (given p))
         more true h = tt

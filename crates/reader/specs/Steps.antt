@@ -16,7 +16,7 @@ use Rattle.clause.specs.declared.SequenceEnd.{SequenceEnd}
 use Rattle.clause.specs.Sequence.{Sequence}
 use Rattle.clause.specs.Steps.{Started, read_on}
 use Rattle.directive.specs.declared.DirectiveName.{DirectiveName}
-use Rattle.reader.specs.declared.Head.{Head}
+use Rattle.reader.specs.declared.heading.Head.{Head}
 use Rattle.reader.specs.declared.Reading.{Reading}
 use Rattle.reader.specs.Line.{Parsed, line_answer}
 use Rattle.reader.specs.Calls.{LineCall}

@@ -8,6 +8,7 @@ use crate::{Reading, checks, heading};
 use clause::{ClauseRecord, records};
 use lexer::Dialect;
 use refusal::Refusal;
+use rulebook::index::Index;
 
 // The line as far as it is read; on a refusal the slots hold what was written till then.
 fn read_up_to(
@@ -24,7 +25,7 @@ fn read_up_to(
         text.new map.new records.new result }
 {
     checks::check_call(line, text.len(), map.len())?;
-    let mut index = [0u32; 1024];
+    let mut index = Index::new();
     let book = rulebook::checked(book, &mut index)?;
     let head = heading::head_under(dialect, &book, line, text, map, slots)?;
     let joined = &text[..head.length];
