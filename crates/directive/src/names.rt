@@ -27,8 +27,7 @@ fn solid_from(text: &[u8], at: usize, compact: bool) -> usize
 // A byte is below 256. The type says so of a slice that a function is lent, and this hands it on for one that a struct holds.
 pub fn fit(bytes: &[u8])
     ensures { AreBytes bytes.now }
-{
-}
+{}
 
 // Whether a candidate agrees with a name: byte by byte through the name, with the next byte of the candidate that counts.
 fn agrees(name: &[u8], candidate: &[u8], how: Comparison) -> bool

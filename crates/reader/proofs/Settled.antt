@@ -120,8 +120,18 @@ module _ (l : Language) (p : Prefix) (bk line : List ℕ) (room : ℕ) where
         let n : h.length + 1 ≤ length map = omega (arith, g.within.1) in
         let t' = padded-take 0 text h.length g.within.0 g.texts in
         let m' = padded-take 0 map (h.length + 1) n g.maps in
-        rw (t, m, k, d, t', m', answer-given h.name e x w, kept-slots h.name e x (length text) (joined_text l line) w, kept-slots h.name e x (length map) (joined_map l line) w,
-        record-slots size h.name x) refl
+        rw (
+          t,
+          m,
+          k,
+          d,
+          t',
+          m',
+          answer-given h.name e x w,
+          kept-slots h.name e x (length text) (joined_text l line) w,
+          kept-slots h.name e x (length map) (joined_map l line) w,
+          record-slots size h.name x,
+        ) refl
 
     -- the same of the slots as they were lent, and of the book as it was handed over
     pub line-done : (size ts ms : ℕ) (given-book text' map' : List ℕ) (rs : List ClauseRecord) (e : SequenceEnd) → bk ≡ given-book → length text ≡ ts → length map ≡ ms

@@ -32,12 +32,7 @@ fn read_name(dialect: Dialect, book: &CheckedBook, text: &[u8]) -> Result<Direct
 }
 
 // The head of a joined text, with so many slots for its clauses.
-fn head_of(
-    dialect: Dialect,
-    book: &CheckedBook,
-    text: &[u8],
-    slots: usize,
-) -> Result<Head, Refusal>
+fn head_of(dialect: Dialect, book: &CheckedBook, text: &[u8], slots: usize) -> Result<Head, Refusal>
     requires { length text.now ≤ max_length }
     ensures { Heads book.now.bytes.now text.now slots (parsed (book_of book.now.bytes.now) dialect.language dialect.prefix slots text.now) result }
 {

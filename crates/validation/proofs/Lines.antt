@@ -28,8 +28,8 @@ module _ (q : Quoting) (s : List ℕ) (i : ℕ) where
   unfolding code_length
   code-more h f =
       let e : (eqb (get_or s i 0) 33 && not (is_inside q)) ≡ false =
-          by_cases (eqb (get_or s i 0) 33) (λ e. rw (e, f (eqb-true _ _ e))) (λ e. rw e)
-          in
+      by_cases (eqb (get_or s i 0) 33) (λ e. rw (e, f (eqb-true _ _ e))) (λ e. rw e)
+      in
       rw (add-one, drop-cons s i 0, code_length, e)
 
   pub code-end : length s ≤ i → code_length q (drop i s) ≡ 0

@@ -82,8 +82,8 @@ module _ (l : Language) (p : Prefix) where
   check_end at line rest =
       cond (is_over rest) Fine
       (elim (eol_bytes rest) [
-        None ↦ WrongAt (at + length line)
-      | Some n ↦ cond (is_blank_text (drop n rest)) Fine (cond (continued l p line) (Next (length line + n)) (WrongAt (at + length line)))
+        | None ↦ WrongAt (at + length line)
+        | Some n ↦ cond (is_blank_text (drop n rest)) Fine (cond (continued l p line) (Next (length line + n)) (WrongAt (at + length line)))
       ])
 
   -- the physical line at place at, with all that follows it

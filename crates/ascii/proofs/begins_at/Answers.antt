@@ -16,10 +16,10 @@ returns-then-word-rest c =
     let h : length c.args.word.now ≤ length s = rw take_rest at c.if-word-rest.true in
     let rest : c.zip.result.b.rest.now ≡ s = rw take_rest at c.zip.ensures.second.0 in
     let e : c.all.result ≡ list_all (λ p. eqb (f p.0) (f p.1)) (zip c.args.word.now s) =
-        all_from_yields_List (λ p. eqb (f p.0) (f p.1)) c.all.new.self _ c.all.result c.all.ensures.ran
-        (YieldsList-from_zip (YieldsList-from_slice c.args.word.now cc) (YieldsList-from_slice s rest))
-        (λ x b q k. search (rules, tests))
-        in
+    all_from_yields_List (λ p. eqb (f p.0) (f p.1)) c.all.new.self _ c.all.result c.all.ensures.ran
+    (YieldsList-from_zip (YieldsList-from_slice c.args.word.now cc) (YieldsList-from_slice s rest))
+    (λ x b q k. search (rules, tests))
+    in
     e ∙ sym (begins-zip f c.args.word.now s h)
 
 pub returns-else-word-rest : goal.returns-else-word-rest

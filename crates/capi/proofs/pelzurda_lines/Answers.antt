@@ -12,4 +12,4 @@ returns c =
     let t : c.fill.new.self ≡ replicate (length a.text.now) 0 = grind (arith, common_steps) in
     let m : c.fill-2.new.self ≡ replicate (length a.map.now) 0 = grind (arith, common_steps) in
     rw (t, m, c.answer_parts-count.ensures.count, c.answer_parts-count.ensures.each)
-        (ap (λ (d : Dialect). lines_call d.language d.prefix a.book.now a.lines.now a.ends.now (length a.text.now) (length a.map.now) a.slots (length a.answers.now)) c.dialect_of.ensures)
+    (ap (λ (d : Dialect). lines_call d.language d.prefix a.book.now a.lines.now a.ends.now (length a.text.now) (length a.map.now) a.slots (length a.answers.now)) c.dialect_of.ensures)

@@ -12,7 +12,7 @@ pub returns-in_err-place-clause-value_2 : goal.returns-in_err-place-clause-value
 returns-in_err-place-clause-value_2 c =
     let b = c.args.book.now in
     let n = next-is (book_of b.bytes.now) c.args.text.now c.args.end c.args.candidate.now (Err c.in_err-place.field-0.0)
-        (rw (case-of b.header b.bytes.now b.header_read) (sym c.skip.ensures.value ∙ c.in_err-place.was)) in
+    (rw (case-of b.header b.bytes.now b.header_read) (sym c.skip.ensures.value ∙ c.in_err-place.was)) in
     let p = err_from_is_err_and c.from_residual.result c.from_residual.ensures.1 in
     rw (p.1, p.2) (sym n)
 

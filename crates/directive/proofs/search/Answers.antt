@@ -44,7 +44,7 @@ loop-candidate-smaller c =
     let l = c.loop-candidate in
     let a = subst (Ahead c.run_end-end.result (length c.args.text.now)) (c.in_ok-next.was ∙ ap Ok c.in-Some-2.is) c.next_word.ensures.ahead in
     let g = ahead c.args.book.now.bytes.now c.args.text.now c.args.from c.args.start l.place c.run_end-end.result l.candidate l.found c.fit.ensures
-        (sym c.starts_word.ensures ∙ c.loop-candidate-test.true) c.run_end-end.ensures.value l.invariant.spaced l.invariant.alike in
+    (sym c.starts_word.ensures ∙ c.loop-candidate-test.true) c.run_end-end.ensures.value l.invariant.spaced l.invariant.alike in
     omega (arith, a, g)
 
 pub loop-candidate-preserved : goal.loop-candidate-preserved
@@ -54,10 +54,10 @@ loop-candidate-preserved c =
     let word = sym c.starts_word.ensures ∙ c.loop-candidate-test.true in
     let a = subst (Ahead c.run_end-end.result (length c.args.text.now)) (c.in_ok-next.was ∙ ap Ok c.in-Some-2.is) c.next_word.ensures.ahead in
     let g = ahead b.bytes.now c.args.text.now c.args.from c.args.start l.place c.run_end-end.result l.candidate l.found c.fit.ensures
-        word c.run_end-end.ensures.value l.invariant.spaced l.invariant.alike in
+    word c.run_end-end.ensures.value l.invariant.spaced l.invariant.alike in
     let e = rw c.as_slice.ensures at c.entry_of-entry.ensures in
     let f : c.match-entry.found ≡ latest c.entry_of-entry.result c.run_end-end.result l.found =
-        elim c.match-entry.branch [ in-Some w ↦ rw (w.found-is, w.in-Some.is) | in_default w ↦ rw (w.found-is, w.in_default.is) ] in
+    elim c.match-entry.branch [ in-Some w ↦ rw (w.found-is, w.in-Some.is) | in_default w ↦ rw (w.found-is, w.in_default.is) ] in
     record {
       within = (omega (arith, a, g), a.1);
       spaced = kept-spaced b.bytes.now c.args.text.now c.args.from c.args.start l.place c.run_end-end.result l.candidate l.found c.fit.ensures
@@ -85,7 +85,7 @@ returns-clause-result_value c =
           (rw (case-of b.header b.bytes.now b.header_read) (sym w.skip.ensures.value ∙ w.in_ok-skip.was)) (subst (Inside w.run_end-end.result (length c.args.text.now)) w.in_ok-skip.was w.skip.ensures.inside))
       | then-loop-candidate-test+else-not-push_word+in_ok-next+in-None w ↦
           let f : w.match-entry.found ≡ latest w.entry_of-entry.result w.run_end-end.result l.found =
-              elim w.match-entry.branch [ in-Some v ↦ rw (v.found-is, v.in-Some.is) | in_default v ↦ rw (v.found-is, v.in_default.is) ] in
+          elim w.match-entry.branch [ in-Some v ↦ rw (v.found-is, v.in-Some.is) | in_default v ↦ rw (v.found-is, v.in_default.is) ] in
           rw (w.found-is, f)
           (next-turn b.bytes.now c.args.text.now c.args.from c.args.start l.place w.run_end-end.result l.candidate l.found c.fit.ensures
           (sym c.starts_word.ensures ∙ w.loop-candidate-test.true) w.run_end-end.ensures.value l.invariant.spaced l.invariant.alike w.push_word.new.self w.push_word.result
@@ -104,7 +104,7 @@ returns-clause-ends c =
       | then-loop-candidate-test+then-not-push_word+in_ok-skip w ↦ rw w.found-is l.invariant.good
       | then-loop-candidate-test+else-not-push_word+in_ok-next+in-None w ↦
           let f : w.match-entry.found ≡ latest w.entry_of-entry.result w.run_end-end.result l.found =
-              elim w.match-entry.branch [ in-Some v ↦ rw (v.found-is, v.in-Some.is) | in_default v ↦ rw (v.found-is, v.in_default.is) ] in
+          elim w.match-entry.branch [ in-Some v ↦ rw (v.found-is, v.in-Some.is) | in_default v ↦ rw (v.found-is, v.in_default.is) ] in
           rw (w.found-is, f)
           (kept-good b.bytes.now c.args.text.now c.args.from c.args.start l.place w.run_end-end.result l.candidate l.found c.fit.ensures
           (sym c.starts_word.ensures ∙ w.loop-candidate-test.true) w.run_end-end.ensures.value l.invariant.spaced l.invariant.alike w.push_word.new.self w.push_word.result

@@ -15,11 +15,11 @@ loop-i-preserved c =
     let s = c.args.line.now in
     let i = c.loop-i.i in
     let step : (get_or s i 0 ≡ 33 → is_inside c.loop-i.quoting ≡ true) → i + 1 + code_length c.after-quoting.result (drop (i + 1) s) ≡ code_length Outside s =
-        λ f. rw c.after-quoting.ensures (omega (arith, c.loop-i.invariant, code-more c.loop-i.quoting s i c.loop-i-test.true f))
-        in
+    λ f. rw c.after-quoting.ensures (omega (arith, c.loop-i.invariant, code-more c.loop-i.quoting s i c.loop-i-test.true f))
+    in
     elim c.else-b-eq33.branch [
-      else-b-eq33-via-then-b-eq33+else-not-is_inside w ↦ step (λ e. sym w.is_inside.ensures ∙ w.if-not-is_inside.false)
-    | else-b-eq33-via-else-b-eq33 w ↦ step (λ e. absurd (w.if-b-eq33.false e))
+      | else-b-eq33-via-then-b-eq33+else-not-is_inside w ↦ step (λ e. sym w.is_inside.ensures ∙ w.if-not-is_inside.false)
+      | else-b-eq33-via-else-b-eq33 w ↦ step (λ e. absurd (w.if-b-eq33.false e))
     ]
 
 pub returns-clause-value : goal.returns-clause-value

@@ -72,7 +72,7 @@ loop-x-preserved c =
     let n : l.x-index < length c.args.name.now = omega arith in
     let b = rw c.is_space.ensures at c.if-how-is_space.false in
     let o = rw (sym c.same_byte.ensures ∙ c.if-not-same_byte.false) at (name-other h.heads h.compact f s l.j c.args.name.now l.x-index n l.invariant.within l.invariant.solid
-        c.if-how-x.false b (ne_eqb l.j (length s) c.if-used.false)) in
+    c.if-how-x.false b (ne_eqb l.j (length s) c.if-used.false)) in
     record {
       within = c.solid_from-j-in-loop-x.ensures.lower_bound.1;
       solid = solid-stops h.compact s (l.j + 1) r e;

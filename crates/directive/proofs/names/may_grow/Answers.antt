@@ -16,7 +16,7 @@ pub returns-then-any_agrees : goal.returns-then-any_agrees
 returns-then-any_agrees c =
     let b = c.args.book.now in
     let g = grow-any (book_of b.bytes.now) c.args.candidate.now b.header.ignores_case b.header.optional_blanks (case-of b.header b.bytes.now b.header_read)
-        (blanks-of b.header b.bytes.now b.header_read) in
+    (blanks-of b.header b.bytes.now b.header_read) in
     elim c.if-is_some.branch [
       | then-is_some w ↦ c.if-any_agrees.true ∙ sym (some-grows (book_of b.bytes.now) c.args.candidate.now c.args.entry c.requires (sym c.is_some.ensures ∙ w.if-is_some.true))
       | else-is_some w ↦ c.if-any_agrees.true ∙ sym (g ∙ rw (sym w.any_agrees.ensures ∙ (sym w.value-is ∙ c.if-any_agrees.true)))
@@ -26,7 +26,7 @@ pub returns-then-book : goal.returns-then-book
 returns-then-book c =
     let b = c.args.book.now in
     let g = grow-any (book_of b.bytes.now) c.args.candidate.now b.header.ignores_case b.header.optional_blanks (case-of b.header b.bytes.now b.header_read)
-        (blanks-of b.header b.bytes.now b.header_read) in
+    (blanks-of b.header b.bytes.now b.header_read) in
     elim c.if-is_some.branch [
       | then-is_some w ↦ let x = w.value-is in let y = w.if-is_some.true in let z = c.if-any_agrees.false in cc
       | else-is_some w ↦ c.any_agrees-then-book.ensures ∙ sym (g ∙ rw (sym w.any_agrees.ensures ∙ (sym w.value-is ∙ c.if-any_agrees.false), c.if-book.true))
@@ -36,7 +36,7 @@ pub returns-else-book : goal.returns-else-book
 returns-else-book c =
     let b = c.args.book.now in
     let g = grow-any (book_of b.bytes.now) c.args.candidate.now b.header.ignores_case b.header.optional_blanks (case-of b.header b.bytes.now b.header_read)
-        (blanks-of b.header b.bytes.now b.header_read) in
+    (blanks-of b.header b.bytes.now b.header_read) in
     elim c.if-is_some.branch [
       | then-is_some w ↦ let x = w.value-is in let y = w.if-is_some.true in let z = c.if-any_agrees.false in cc
       | else-is_some w ↦ c.if-book.false ∙ sym (g ∙ rw (sym w.any_agrees.ensures ∙ (sym w.value-is ∙ c.if-any_agrees.false), c.if-book.false))

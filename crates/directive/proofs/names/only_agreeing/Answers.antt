@@ -24,7 +24,7 @@ returns-in_err-first c =
     let es = (book_of c.args.book.now.bytes.now).directives in
     let r = c.position.ensures.ran in
     let n = position-none (λ b. b.now) (λ ns. ns) _ (λ n. agrees_in c.args.how n c.args.candidate.now) _ (λ x b q k. search (rules, tests)) c.directive_names-names.result c.position.new.self
-        c.position.result r.0 r.1 r.2 r.3 r.4 r.5 c.in_err-first.was in
+    c.position.result r.0 r.1 r.2 r.3 r.4 r.5 c.in_err-first.was in
     c.from_residual.ensures ∙ sym (only-none (λ n. agrees_in c.args.how n c.args.candidate.now) es (rw c.directive_names-names.ensures at n))
 
 pub returns-then-again : goal.returns-then-again
@@ -33,9 +33,9 @@ returns-then-again c =
     let t : List ℕ → Bool = λ n. agrees_in c.args.how n c.args.candidate.now in
     let r = c.position.ensures.ran in
     let q = position-some (λ b. b.now) (λ ns. ns) _ t _ (λ x b q k. search (rules, tests)) c.directive_names-names.result c.position.new.self
-        c.position.result r.0 r.1 r.2 r.3 r.4 r.5 c.in_ok-first.first c.in_ok-first.was in
+    c.position.result r.0 r.1 r.2 r.3 r.4 r.5 c.in_ok-first.first c.in_ok-first.was in
     let a = any_from_yields_List t _ _ c.any-again.result c.any-again.ensures.ran (YieldsList-from_first (λ x. x.now) (λ ns. ns) c.position.new.self refl)
-        (λ x b q k. search (rules, tests)) in
+    (λ x b q k. search (rules, tests)) in
     let f = only-first t es (map (λ b. b.now) r.0) q.0 c.position.new.self (sym c.directive_names-names.ensures ∙ q.1) q.2 q.3 in
     sym (f ∙ rw (sym a ∙ c.if-again.true))
 
@@ -45,8 +45,8 @@ returns-else-again c =
     let t : List ℕ → Bool = λ n. agrees_in c.args.how n c.args.candidate.now in
     let r = c.position.ensures.ran in
     let q = position-some (λ b. b.now) (λ ns. ns) _ t _ (λ x b q k. search (rules, tests)) c.directive_names-names.result c.position.new.self
-        c.position.result r.0 r.1 r.2 r.3 r.4 r.5 c.in_ok-first.first c.in_ok-first.was in
+    c.position.result r.0 r.1 r.2 r.3 r.4 r.5 c.in_ok-first.first c.in_ok-first.was in
     let a = any_from_yields_List t _ _ c.any-again.result c.any-again.ensures.ran (YieldsList-from_first (λ x. x.now) (λ ns. ns) c.position.new.self refl)
-        (λ x b q k. search (rules, tests)) in
+    (λ x b q k. search (rules, tests)) in
     let f = only-first t es (map (λ b. b.now) r.0) q.0 c.position.new.self (sym c.directive_names-names.ensures ∙ q.1) q.2 q.3 in
     sym (f ∙ rw (sym a ∙ c.if-again.false, ← q.4))

@@ -34,7 +34,7 @@ returns c =
     let r = c.join_into-n in
     let f = call-fits a.line.now (length a.text.now) (length a.map.now) c.requires in
     let e = line_read a.dialect.language a.dialect.prefix b.bytes.now a.line.now (length a.text.now) (length a.map.now) a.slots c.requires b.valid
-        (rw (case-of b.header b.bytes.now b.header_read) (sym c.check_line.ensures ∙ c.in_ok-check_line.was)) in
+    (rw (case-of b.header b.bytes.now b.header_read) (sym c.check_line.ensures ∙ c.in_ok-check_line.was)) in
     let m : r.result ≤ length r.new.text = omega (arith, f.text, r.ensures.within) in
     let k : r.result < length r.new.map = omega (arith, f.map, r.ensures.within) in
     gives-joined a.dialect.language a.dialect.prefix b.bytes.now a.line.now a.slots r.new.text r.new.map r.result (rw (r.auto.text, r.auto.map) e) m k r.ensures.text r.ensures.map c.head_of.result c.head_of.ensures

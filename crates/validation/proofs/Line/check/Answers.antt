@@ -16,6 +16,6 @@ returns-clause-value c =
     let a = c.args in
     let e = check-at a.self.now.dialect.language a.self.now.dialect.prefix a.self.now.text.now a.at c.run_end-end.result (ltb 0 a.at) c.run_end-end.ensures.value in
     elim c.else-at-gt0.branch [
-      else-at-gt0-via-then-at-gt0+else-foreign w ↦ rw (e, lt-ltb 0 a.at w.if-at-gt0.true, ← w.foreign.ensures, w.if-foreign.false, c.check_end.ensures.value)
-    | else-at-gt0-via-else-at-gt0 w ↦ rw (e, le-ltb 0 a.at w.if-at-gt0.false, c.check_end.ensures.value)
+      | else-at-gt0-via-then-at-gt0+else-foreign w ↦ rw (e, lt-ltb 0 a.at w.if-at-gt0.true, ← w.foreign.ensures, w.if-foreign.false, c.check_end.ensures.value)
+      | else-at-gt0-via-else-at-gt0 w ↦ rw (e, le-ltb 0 a.at w.if-at-gt0.false, c.check_end.ensures.value)
     ]
