@@ -1,6 +1,6 @@
 -- One turn of the search for a name, with the candidate in its buffer: it is too long, or what follows it decides. Assumes nothing.
-use Rattle.std.proofs.Common.{ℕ, ◌≡◌, ◌+◌, ◌-◌, ◌<◌, ◌≤◌, refl, sym, ap, ◌∙◌, true, false, Bool, List, [], ◌∷◌, length, take, drop, get_or, arith}
-use Rattle.std.specs.Prelude.{Option, Some, None, Result, Ok, Err}
+use Rattle.std.proofs.Common.{ℕ, ◌≡◌, ◌+◌, ◌-◌, ◌<◌, ◌≤◌, refl, sym, ◌∙◌, true, false, Bool, List, [], length, take, drop, get_or, arith}
+use Rattle.std.specs.Prelude.{Option, None, Result}
 use Rattle.ascii.specs.Ascii.{is_word}
 use Rattle.ascii.specs.Text.{leading}
 use Rattle.refusal.specs.declared.Refusal.{Refusal}

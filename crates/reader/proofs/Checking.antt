@@ -1,13 +1,13 @@
 -- Laws of the checks before a line is joined: each decides in its turn, and what holds once none has found anything. By cases of what they find.
 -- Assumes nothing.
-use Rattle.std.proofs.Common.{ℕ, suc, ◌≡◌, ◌≤◌, ◌<◌, refl, sym, ap, ◌∙◌, Bool, true, false, cond, List, length}
-use Rattle.std.specs.Prelude.{Option, Some, None, Result, Ok, Err}
+use Rattle.std.proofs.Common.{ℕ, suc, ◌≡◌, ◌≤◌, ◌<◌, refl, sym, ◌∙◌, Bool, true, false, cond, List, length}
+use Rattle.std.specs.Prelude.{Option, Some, None, Ok, Err}
 use borrow.Author.Tests.{ltb-false}
 use lib.Dec.{ltb}
 use Rattle.ascii.proofs.Flags.{or-none}
 use Rattle.refusal.specs.declared.Refusal.{Refusal}
 use Rattle.refusal.specs.declared.Reason.TheVariants.{ShortBuffer, WrongLanguage, InvalidLine}
-use Rattle.refusal.specs.Answer.{Answer, refused, refused_by, unless_fault, admitted, max_length}
+use Rattle.refusal.specs.Answer.{Answer, refused, refused_by, unless_fault, max_length}
 use Rattle.refusal.specs.Verdict.{Verdict, fine, refusal_at, fault_by, and_check, text_verdict, or_refused}
 use Rattle.refusal.proofs.Admission.{admits, admits-length}
 use Rattle.lexer.specs.declared.Language.{Language}

@@ -1,10 +1,10 @@
 -- Laws of the head of a line: the name that is read, where the clauses start behind it, and what joining has left of text and map.
 -- By cases of the answers on the way. Assumes nothing.
-use Rattle.std.proofs.Common.{ℕ, zero, suc, ◌≡◌, ◌+◌, ◌≤◌, ◌<◌, refl, sym, ap, subst, ◌∙◌, List, [], ◌∷◌, length, take, arith}
-use Rattle.std.specs.Prelude.{None, Result, Ok, Err}
-use lib.Seq.{take-length, length-take-le}
+use Rattle.std.proofs.Common.{ℕ, ◌≡◌, ◌+◌, ◌≤◌, ◌<◌, refl, sym, ap, subst, ◌∙◌, List, length, take}
+use Rattle.std.specs.Prelude.{Result, Ok, Err}
+use lib.Seq.{length-take-le}
 use Rattle.refusal.specs.declared.Refusal.{Refusal}
-use Rattle.refusal.specs.Answer.{Answer, given, refused, refused_by, told, and_then, max_length}
+use Rattle.refusal.specs.Answer.{Answer, given, refused, refused_by, and_then, max_length}
 use Rattle.refusal.proofs.Answers.{and_then-given, sure-of}
 use Rattle.lexer.specs.declared.Language.{Language}
 use Rattle.lexer.specs.declared.Prefix.{Prefix}
@@ -17,8 +17,8 @@ use Rattle.directive.specs.declared.DirectiveName.{DirectiveName}
 use Rattle.directive.specs.Name.{name_at}
 use Rattle.directive.proofs.Ends.{name_at-end}
 use Rattle.reader.specs.declared.heading.Head.{Head}
-use Rattle.reader.specs.Line.{opening, Parsed, parsed, line_answer}
-use Rattle.reader.specs.Steps.{behind, Heading, Heads, HeadLeaves, HeadGives}
+use Rattle.reader.specs.Line.{opening, parsed, line_answer}
+use Rattle.reader.specs.Steps.{behind, Heading, Heads, HeadGives}
 use Rattle.reader.proofs.Rest.{opening-end}
 
 then-then : {A B D : Type 0} (x : Answer A) (f : A → Answer B) (g : B → Answer D) → and_then (and_then x f) g ≡ and_then x (λ a. and_then (f a) g)

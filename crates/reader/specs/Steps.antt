@@ -1,6 +1,5 @@
 -- The whole line by steps: the checks before it is joined, what stands once the name is read, and what is left once the clauses are.
 use Rattle.std.specs.Prelude.{ℕ, ◌+◌, ◌≤◌, ◌<◌, Bool, cond, not, ◌≡◌, List, length, take, Result, Ok, Err}
-use Rattle.ascii.specs.Text.{first_high}
 use Rattle.refusal.specs.declared.Reason.TheVariants.{ShortBuffer, WrongLanguage, InvalidLine}
 use Rattle.refusal.specs.declared.Refusal.{Refusal}
 use Rattle.refusal.specs.Answer.{Answer, given, refused_by, and_then}

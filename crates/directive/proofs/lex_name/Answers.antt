@@ -1,6 +1,5 @@
 -- `lex_name` meets its contract: trivia first, then the search from the place behind it.
-use Rattle.std.proofs.Common.{◌≡◌, sym, ap, ◌∙◌}
-use Rattle.std.specs.Prelude.{Ok, Err}
+use Rattle.std.proofs.Common.{sym, ap, ◌∙◌}
 use Rattle.std.proofs.lemmas.Result.{err_from_is_err_and}
 use Rattle.refusal.specs.Answer.{told}
 use Rattle.rulebook.specs.Book.{book_of}

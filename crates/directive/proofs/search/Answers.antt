@@ -1,10 +1,7 @@
 -- `search` meets its contract: each turn is one of the search, and each exit is where it stops.
-use Rattle.std.proofs.Common.{◌≡◌, ◌≤◌, ℕ, sym, ap, subst, ◌∙◌, arith, length, drop}
+use Rattle.std.proofs.Common.{◌≡◌, sym, ap, subst, ◌∙◌, arith, length}
 use Rattle.std.specs.Prelude.{Ok, Err, Some, None}
-use Rattle.std.specs.Option.{ok_or}
 use Rattle.std.proofs.lemmas.Result.{err_from_is_err_and}
-use Rattle.refusal.specs.declared.Reason.TheVariants.{NoDirective}
-use Rattle.refusal.specs.Verdict.{refusal_at}
 use Rattle.lexer.specs.Trivia.{Inside}
 use Rattle.rulebook.specs.Book.{book_of}
 use Rattle.directive.specs.Name.{latest}

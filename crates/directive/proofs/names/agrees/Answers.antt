@@ -1,7 +1,6 @@
 -- `agrees` meets its contract: each byte of the name is one of the laws of comparing.
-use Rattle.std.proofs.Common.{◌≡◌, ℕ, ◌+◌, ◌≤◌, ◌<◌, Bool, true, false, ◌&&◌, ◌||◌, List, [], length, get_or, drop, sym, ◌∙◌, arith, eq-eqb}
+use Rattle.std.proofs.Common.{◌≡◌, ℕ, ◌+◌, ◌≤◌, ◌<◌, Bool, ◌||◌, List, [], length, sym, ◌∙◌, arith, eq-eqb}
 use borrow.Author.Tests.{ne_eqb}
-use Rattle.ascii.specs.Ascii.{is_space}
 use Rattle.ascii.specs.Text.{comparing}
 use Rattle.directive.specs.Steps.{agreed}
 use Rattle.directive.proofs.Agreeing.{squeezed, headed, plain, agrees-headed, solid-squeezed, solid-stops, name-end, name-hit, name-blank, name-alone, name-other}

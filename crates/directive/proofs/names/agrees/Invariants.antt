@@ -1,5 +1,5 @@
 -- What is left of the name agrees with what is left of the candidate as the whole ones do.
-use Rattle.std.proofs.Common.{◌≡◌, ◌≤◌, Bool, false, ◌&&◌, ◌||◌, [], length, get_or, drop}
+use Rattle.std.proofs.Common.{◌≡◌, ◌≤◌, false, ◌&&◌, ◌||◌, [], length, get_or, drop}
 use Rattle.ascii.specs.Ascii.{is_space}
 use Rattle.ascii.specs.Text.{comparing}
 use Rattle.directive.proofs.Agreeing.{squeezed, headed, plain}

@@ -1,8 +1,5 @@
 -- `only_agreeing` meets its contract: the first name that agrees, and whether one behind it does.
-use Rattle.std.proofs.Common.{◌≡◌, ◌<◌, ◌≤◌, ◌^◌, ◌+◌, ℕ, Bool, refl, List, map, length, sym, ap, ◌∙◌, arith, rules, tests}
-use Rattle.std.specs.Prelude.{None, Some}
-use Rattle.std.specs.List.{list_any}
-use Rattle.std.proofs.lemmas.Iterator.{YieldsList}
+use Rattle.std.proofs.Common.{◌≤◌, ℕ, Bool, refl, List, map, length, sym, ap, ◌∙◌, arith, rules, tests}
 use Rattle.std.proofs.lemmas.Iterator.Consumers.{YieldsList-from_first}
 use Rattle.std.proofs.lemmas.Iterator.Search.{any_from_yields_List}
 use mathlib.Core.Logic.{inl}

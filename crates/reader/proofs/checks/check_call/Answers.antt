@@ -1,5 +1,5 @@
 -- `check_call` meets its contract: each return is a case of the check, by what those before it found.
-use Rattle.std.proofs.Common.{◌≡◌, sym, ◌∙◌}
+use Rattle.std.proofs.Common.{sym, ◌∙◌}
 use Rattle.std.proofs.lemmas.Result.{err_from_is_err_and}
 use Rattle.reader.specs.Steps.{call_verdict}
 use Rattle.reader.proofs.checks.check_call.Goals as goal

@@ -1,5 +1,5 @@
 -- `check_line` meets its contract: each return is a case of the check.
-use Rattle.std.proofs.Common.{◌≡◌, sym, ◌∙◌}
+use Rattle.std.proofs.Common.{sym, ◌∙◌}
 use Rattle.reader.specs.Steps.{line_verdict}
 use Rattle.reader.proofs.checks.check_line.Goals as goal
 

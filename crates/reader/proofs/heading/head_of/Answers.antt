@@ -1,5 +1,5 @@
 -- `head_of` meets its contract: without a name it is refused, behind one the clauses start.
-use Rattle.std.proofs.Common.{◌≡◌, refl, sym, ap, ◌∙◌}
+use Rattle.std.proofs.Common.{refl, sym, ap, ◌∙◌}
 use Rattle.std.proofs.lemmas.Result.{err_from_is_err_and}
 use Rattle.refusal.specs.Answer.{told}
 use Rattle.rulebook.specs.Book.{book_of}

@@ -1,5 +1,5 @@
 -- `read_into` meets its contract: what is left of a refusal is zeroed.
-use Rattle.std.proofs.Common.{◌≡◌, rules, length, sym, ◌∙◌}
+use Rattle.std.proofs.Common.{rules, length, sym, ◌∙◌}
 use Rattle.reader.proofs.Settled.{within-left}
 use Rattle.reader.proofs.line.read_into.Goals as goal
 

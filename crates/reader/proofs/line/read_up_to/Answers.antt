@@ -1,5 +1,5 @@
 -- `read_up_to` meets its contract: the first that refuses, or the clauses in their slots.
-use Rattle.std.proofs.Common.{◌≡◌, ◌+◌, ◌≤◌, arith, rules, length, sym, ap, ◌∙◌}
+use Rattle.std.proofs.Common.{◌+◌, ◌≤◌, arith, rules, length, sym, ap, ◌∙◌}
 use Rattle.std.proofs.lemmas.Result.{err_from_is_err_and}
 use Rattle.refusal.specs.Answer.{refused_by, told}
 use Rattle.clause.specs.Calls.{SequenceCall}

@@ -1,5 +1,5 @@
 -- `line_answer` meets its contract: the head as it is read, the clauses as they are counted, or the first that refuses.
-use Rattle.std.proofs.Common.{◌≡◌, length, sym, ap, ◌∙◌}
+use Rattle.std.proofs.Common.{length, sym, ap, ◌∙◌}
 use Rattle.std.proofs.lemmas.Result.{err_from_is_err_and}
 use Rattle.refusal.specs.Answer.{refused_by, told}
 use Rattle.reader.proofs.Checking.{line-call, line-book}

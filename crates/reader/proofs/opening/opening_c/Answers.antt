@@ -1,5 +1,5 @@
 -- `opening_c` meets its contract: where each of its steps came to, and the first that fails.
-use Rattle.std.proofs.Common.{◌≡◌, sym, ap, ◌∙◌}
+use Rattle.std.proofs.Common.{sym, ap, ◌∙◌}
 use Rattle.std.proofs.lemmas.Result.{err_from_is_err_and}
 use Rattle.lexer.specs.Steps.{step_of}
 use Rattle.reader.specs.Line.{opening_c}
