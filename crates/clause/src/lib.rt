@@ -74,7 +74,8 @@ pub struct Separation {
     pub next: usize,
 }
 
-// How far a sequence has come: more is to be read, the list has ended, or it is refused.
+// How far a sequence has come: more is to be read, the list has ended, or it is refused. No Result of an Option: a state is no answer that `?` hands on, and
+// the three are asked for side by side.
 #[derive(Clone, Copy, Debug, PartialEq, Eq)]
 pub enum Progress {
     Going,

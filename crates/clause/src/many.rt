@@ -19,6 +19,7 @@ pub fn count_clauses(
     ensures { told result ≡ and_then (read_on book.now.bytes.now text.now start) (λ s. given (counted s)) }
 {
     let mut s = start;
+    // beside the loop that writes: there is no slot here, and a closure for one would hide what is kept
     for _ in 0..slots {
         s = steps::next(book, text, s);
         if !s.goes_on() {

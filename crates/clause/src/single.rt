@@ -102,7 +102,7 @@ impl ClauseWord<'_> {
         }
     }
 
-    // The word with the argument behind it, which it needs or may have.
+    // The word with the argument behind it, which it needs or may have: the two rules differ in one test, a bool.
     fn with_argument(&self, needed: bool) -> Result<ClauseRead, ClauseError>
         ensures { result ≡ argument_of self.now.fortran self.now.text.now self.now.start self.now.end self.now.entry
             (cond needed ClauseRule.Parenthesized ClauseRule.Flexible) (skip self.now.fortran self.now.text.now self.now.end) }

@@ -25,6 +25,7 @@ fn read_full<R: Read>(input: &mut R, buffer: &mut [u8]) -> io::Result<usize>
     ensures whole { IfOk result (λ n. n < length buffer.old → IsAtEnd (R.remaining input.new)) }
 {
     let mut done = 0;
+    // by what a read gives
     while done < buffer.len() {
         let n = input.read(&mut buffer[done..])?;
         if n == 0 {
@@ -61,6 +62,7 @@ fn print_line(
 }
 
 fn main(rt: HostRuntime) -> io::Result<()> {
+    // Fixed memory: nothing longer than this is read.
     let mut book = [0u8; 33415];
     let b = read_book(&rt, &mut book)?;
     // One byte more than the longest line, to see refusal 1.

@@ -10,7 +10,7 @@ use ascii::sets::{Blank, InLine};
 use lexer::{Dialect, Language, Prefix, continuation};
 
 // What a physical line, with all that follows it, says of the whole: all is well, a fault at a place,
-// or well as far as the next physical line, so many bytes on.
+// or well as far as the next physical line, so many bytes on. No Result of an Option: a fault is what the search answers, so no `?` would hand it on.
 #[derive(Clone, Copy, Debug, PartialEq, Eq)]
 pub enum Checked {
     Fine,
@@ -201,6 +201,7 @@ pub fn validate_logical_line(dialect: Dialect, line: &[u8]) -> Option<usize>
         tail: ascii::trim_range(line).end,
     };
     let mut at = 0;
+    // by physical lines
     while at < line.len() {
         match whole.check(at) {
             Checked::Fine => return None,
