@@ -2,6 +2,7 @@
 ghost use Rattle.std.specs.Prelude.{◌≡◌, ◌<◌};
 ghost use Rattle.ascii.specs.Ascii.{class_of, is_trimmed, is_space, is_blank, is_eol, is_digit, is_letter, is_word, fold as folded};
 
+// Numbers and no enum, so that a range of classes is one comparison: the table of 256 class numbers is a form that the project names.
 // 1 blank and tab, 2 LF and CR, 3 FF, 4 VT, 5 digits, 6 upper-case letters, 7 lower-case letters, 8 underscore, 0 any other byte.
 const CLASSES: [u8; 256] = [
     0, 0, 0, 0, 0, 0, 0, 0, 0, 1, 2, 4, 3, 2, 0, 0, 0, 0, 0, 0, 0, 0, 0, 0, 0, 0, 0, 0, 0, 0, 0, 0,
