@@ -1,7 +1,7 @@
 -- `pelzurda_check_book` meets its contract: the code of the book check's own answer.
 use Rattle.std.proofs.Common.{◌≡◌, ℕ, Option, Some, None, refl, ap, ◌∙◌}
 use Rattle.refusal.specs.declared.Reason.TheVariants.{WrongBook}
-use Rattle.refusal.specs.Answer.{Answer, given, unless_fault, told}
+use Rattle.refusal.specs.Answer.{given, unless_fault, told}
 use Rattle.refusal.specs.Verdict.{fault_by}
 use Rattle.rulebook.specs.Check.{book_fault, book_verdict, book_call}
 use Rattle.coded.specs.Coded.{coded_yes}
