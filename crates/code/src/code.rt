@@ -97,6 +97,7 @@ impl CodeText<'_> {
     {
         let text = self.text;
         let mut i = from;
+        // by one byte, or two where the second is hidden
         while i < text.len() {
             if self.hides_next(i, q) {
                 i += 2;
@@ -167,6 +168,7 @@ impl CodeText<'_> {
     {
         let text = self.text;
         let mut i = from;
+        // by pieces
         while i < text.len() {
             if is_plain(text[i]) {
                 i += 1;
@@ -190,6 +192,7 @@ impl CodeText<'_> {
     {
         let text = self.text;
         let mut i = from;
+        // by pieces
         while i < text.len() {
             if is_plain(text[i]) {
                 return i;

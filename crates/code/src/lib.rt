@@ -26,6 +26,7 @@ pub enum CommentStyle {
 }
 
 // A text, and what is invisible in it: its code bytes are what quotes and comments leave.
+// A place is a plain number beside it, with its bound in each contract: a struct of both would be made anew at each step of a walk, and read no plainer.
 #[derive(Clone, Copy)]
 pub struct CodeText<'a> {
     pub text: &'a [u8],

@@ -41,134 +41,141 @@ fn is_dull_eight(text: &[u8], at: usize) -> bool
     text[at..at + 8].iter().all(|b| is_dull(*b))
 }
 
-impl CodeText<'_> {
+// A place of a text, with the flags N places behind it: from back to front, those of a place follow from those behind it.
+#[derive(Clone, Copy)]
+struct Spot<'a, const N: usize> {
+    code: CodeText<'a>,
+    at: usize,
+    near: Near,
+    ghost known: { near ≡ near_at code.style code.text.now (at + N) },
+}
+
+impl Spot<'_, 1> {
     // Inside a literal in q.
-    fn in_quote(&self, at: usize, q: u8, near: Near) -> bool
-        requires at_in_bounds { (at < length self.now.text.now) × ((q ≡ 39) ⊎ (q ≡ 34)) }
-        requires near_value { near ≡ near_at self.now.style self.now.text.now (at + 1) }
-        ensures { result ≡ quote_clean self.now.style self.now.text.now q at }
+    fn in_quote(&self, q: u8) -> bool
+        requires at_in_bounds { (self.now.at < length self.now.code.text.now) × ((q ≡ 39) ⊎ (q ≡ 34)) }
+        ensures { result ≡ quote_clean self.now.code.style self.now.code.text.now q self.now.at }
     {
-        if self.hides_next(at, q) {
-            near.two.literal(q)
-        } else if self.text[at] == q {
-            near.one.code
+        if self.code.hides_next(self.at, q) {
+            self.near.two.literal(q)
+        } else if self.code.text[self.at] == q {
+            self.near.one.code
         } else {
-            near.one.literal(q)
+            self.near.one.literal(q)
         }
     }
 
     // Inside a block comment.
-    fn in_block(&self, at: usize, near: Near) -> bool
-        requires at_in_bounds { at < length self.now.text.now }
-        requires near_value { near ≡ near_at self.now.style self.now.text.now (at + 1) }
-        ensures { result ≡ block_clean self.now.style self.now.text.now at }
+    fn in_block(&self) -> bool
+        requires { self.now.at < length self.now.code.text.now }
+        ensures { result ≡ block_clean self.now.code.style self.now.code.text.now self.now.at }
     {
-        if self.text[at] == b'*' && ascii::byte_at(self.text, at + 1) == b'/' {
-            near.two.code
+        if self.code.text[self.at] == b'*' && ascii::byte_at(self.code.text, self.at + 1) == b'/' {
+            self.near.two.code
         } else {
-            near.one.block
+            self.near.one.block
         }
     }
 
     // Inside a line comment.
-    fn in_line(&self, at: usize, near: Near) -> bool
-        requires at_in_bounds { at < length self.now.text.now }
-        requires near_value { near ≡ near_at self.now.style self.now.text.now (at + 1) }
-        ensures { result ≡ line_clean self.now.style self.now.text.now at }
+    fn in_line(&self) -> bool
+        requires { self.now.at < length self.now.code.text.now }
+        ensures { result ≡ line_clean self.now.code.style self.now.code.text.now self.now.at }
     {
-        if ascii::class::is_eol(self.text[at]) {
-            near.one.code
+        if ascii::class::is_eol(self.code.text[self.at]) {
+            self.near.one.code
         } else {
-            near.one.line
+            self.near.one.line
         }
     }
 
     // In code, at a slash.
-    fn at_slash(&self, at: usize, near: Near) -> bool
-        requires at_in_bounds { (at < length self.now.text.now) × (get_or self.now.text.now at 0 ≡ 47) }
-        requires near_value { near ≡ near_at self.now.style self.now.text.now (at + 1) }
-        ensures { result ≡ clean self.now.style self.now.text.now at }
+    fn at_slash(&self) -> bool
+        requires { (self.now.at < length self.now.code.text.now) × (get_or self.now.code.text.now self.now.at 0 ≡ 47) }
+        ensures { result ≡ clean self.now.code.style self.now.code.text.now self.now.at }
     {
-        match ascii::byte_at(self.text, at + 1) {
-            b'*' => near.two.block,
-            b'/' if self.style.is_c_like() => near.two.line,
-            _ => near.one.code,
+        match ascii::byte_at(self.code.text, self.at + 1) {
+            b'*' => self.near.two.block,
+            b'/' if self.code.style.is_c_like() => self.near.two.line,
+            _ => self.near.one.code,
         }
     }
 
     // In code, at an exclamation mark.
-    fn at_bang(&self, at: usize, near: Near) -> bool
-        requires at_in_bounds { (at < length self.now.text.now) × (get_or self.now.text.now at 0 ≡ 33) }
-        requires near_value { near ≡ near_at self.now.style self.now.text.now (at + 1) }
-        ensures { result ≡ clean self.now.style self.now.text.now at }
+    fn at_bang(&self) -> bool
+        requires { (self.now.at < length self.now.code.text.now) × (get_or self.now.code.text.now self.now.at 0 ≡ 33) }
+        ensures { result ≡ clean self.now.code.style self.now.code.text.now self.now.at }
     {
-        if self.style.is_fortran() && ascii::byte_at(self.text, at + 1) != b'$' {
-            near.one.line
+        if self.code.style.is_fortran() && ascii::byte_at(self.code.text, self.at + 1) != b'$' {
+            self.near.one.line
         } else {
-            near.one.code
+            self.near.one.code
         }
     }
 
     // In code.
-    fn in_code(&self, at: usize, near: Near) -> bool
-        requires at_in_bounds { at < length self.now.text.now }
-        requires near_value { near ≡ near_at self.now.style self.now.text.now (at + 1) }
-        ensures { result ≡ clean self.now.style self.now.text.now at }
+    fn in_code(&self) -> bool
+        requires { self.now.at < length self.now.code.text.now }
+        ensures { result ≡ clean self.now.code.style self.now.code.text.now self.now.at }
     {
-        match self.text[at] {
-            b'\'' => near.one.single,
-            b'"' => near.one.double,
-            b'/' => self.at_slash(at, near),
-            b'!' => self.at_bang(at, near),
-            _ => near.one.code,
+        match self.code.text[self.at] {
+            b'\'' => self.near.one.single,
+            b'"' => self.near.one.double,
+            b'/' => self.at_slash(),
+            b'!' => self.at_bang(),
+            _ => self.near.one.code,
         }
     }
 
-    // The flags of a place by those of the next two. Most bytes change none.
-    fn flags_at(&self, at: usize, near: Near) -> Flags
-        requires { near ≡ near_at self.now.style self.now.text.now (at + 1) }
-        ensures { result ≡ flags_at self.now.style self.now.text.now at }
+    // The flags of the place. Most bytes change none.
+    fn flags(&self) -> Flags
+        ensures { result ≡ flags_at self.now.code.style self.now.code.text.now self.now.at }
     {
-        if self.text.len() <= at {
+        if self.code.text.len() <= self.at {
             return past_end();
         }
-        if is_dull(self.text[at]) {
-            return near.one;
+        if is_dull(self.code.text[self.at]) {
+            return self.near.one;
         }
         Flags {
-            code: self.in_code(at, near),
-            single: self.in_quote(at, b'\'', near),
-            double: self.in_quote(at, b'"', near),
-            block: self.in_block(at, near),
-            line: self.in_line(at, near),
+            code: self.in_code(),
+            single: self.in_quote(b'\''),
+            double: self.in_quote(b'"'),
+            block: self.in_block(),
+            line: self.in_line(),
         }
     }
+}
 
-    // The marks of eight places before a place whose flags are given, if none of the eight bytes changes them.
-    fn dull_octet(&self, at: usize, near: Near) -> MarkBits
-        requires at_in_bounds { (at + 8 ≤ length self.now.text.now) × (dulls self.now.text.now at 8 ≡ true) }
-        requires near_value { near ≡ near_at self.now.style self.now.text.now (at + 8) }
-        ensures { result ≡ marked_from self.now.style self.now.text.now at 8 }
+impl Spot<'_, 8> {
+    // The marks of the eight places, if none of the eight bytes changes the flags.
+    fn dull_octet(&self) -> MarkBits
+        requires { (self.now.at + 8 ≤ length self.now.code.text.now) × (dulls self.now.code.text.now self.now.at 8 ≡ true) }
+        ensures { result ≡ marked_from self.now.code.style self.now.code.text.now self.now.at 8 }
     {
         MarkBits {
-            bits: if near.one.code { 255 } else { 0 },
+            bits: if self.near.one.code { 255 } else { 0 },
             near: Near {
-                one: near.one,
-                two: near.one,
+                one: self.near.one,
+                two: self.near.one,
             },
         }
     }
 
-    // The marks of eight places from a place on, one by one.
-    fn mixed_octet(&self, at: usize, near: Near) -> MarkBits
-        requires at_bound { at ≤ 16408 }
-        requires near_value { near ≡ near_at self.now.style self.now.text.now (at + 8) }
-        ensures { result ≡ marked_from self.now.style self.now.text.now at 8 }
+    // The marks of the eight places, one by one.
+    fn mixed_octet(&self) -> MarkBits
+        requires { self.now.at ≤ 16408 }
+        ensures { result ≡ marked_from self.now.code.style self.now.code.text.now self.now.at 8 }
     {
-        let mut near = near;
+        let mut near = self.near;
         let mut bits = 0;
         for k in (0..8).rev() {
-            let here = self.flags_at(at + k, near);
+            let spot: Spot<1> = Spot {
+                code: self.code,
+                at: self.at + k,
+                near,
+            };
+            let here = spot.flags();
             near = Near {
                 one: here,
                 two: near.one,
@@ -178,43 +185,51 @@ impl CodeText<'_> {
         MarkBits { bits, near }
     }
 
-    // The marks of eight places from a place on.
-    fn octet(&self, at: usize, near: Near) -> MarkBits
-        requires at_bound { at ≤ 16408 }
-        requires near_value { near ≡ near_at self.now.style self.now.text.now (at + 8) }
-        ensures { result ≡ marked_from self.now.style self.now.text.now at 8 }
+    // The marks of the eight places.
+    fn octet(&self) -> MarkBits
+        requires { self.now.at ≤ 16408 }
+        ensures { result ≡ marked_from self.now.code.style self.now.code.text.now self.now.at 8 }
     {
-        if self.text.len() <= at {
+        let text = self.code.text;
+        if text.len() <= self.at {
             return MarkBits {
                 bits: 255,
                 near: Near {
-                    one: near.one,
-                    two: near.one,
+                    one: self.near.one,
+                    two: self.near.one,
                 },
             };
         }
-        if at + 8 <= self.text.len() && is_dull_eight(self.text, at) {
-            return self.dull_octet(at, near);
+        if self.at + 8 <= text.len() && is_dull_eight(text, self.at) {
+            return self.dull_octet();
         }
-        self.mixed_octet(at, near)
+        self.mixed_octet()
     }
+}
 
-    // The marks of 32 places from a place on, eight by eight.
-    fn cell(&self, at: usize, near: Near) -> MarkBits
-        requires at_bound { at ≤ 16384 }
-        requires near_value { near ≡ near_at self.now.style self.now.text.now (at + 32) }
-        ensures { result ≡ marked_from self.now.style self.now.text.now at 32 }
+impl Spot<'_, 32> {
+    // The marks of the 32 places, eight by eight.
+    fn cell(&self) -> MarkBits
+        requires { self.now.at ≤ 16384 }
+        ensures { result ≡ marked_from self.now.code.style self.now.code.text.now self.now.at 32 }
     {
-        let mut near = near;
+        let mut near = self.near;
         let mut bits = 0;
         for k in (0..4).rev() {
-            let eight = self.octet(at + 8 * k, near);
+            let spot: Spot<8> = Spot {
+                code: self.code,
+                at: self.at + 8 * k,
+                near,
+            };
+            let eight = spot.octet();
             near = eight.near;
             bits = bits * 256 + eight.bits;
         }
         MarkBits { bits, near }
     }
+}
 
+impl CodeText<'_> {
     // The marks of a text, of 32 places in each number.
     pub fn fill_marks(&self, marks: &mut [u32])
         requires { (length self.now.text.now ≤ 16384) × (length self.now.text.now / 32 < length marks.old) }
@@ -223,7 +238,12 @@ impl CodeText<'_> {
         let end = past_end();
         let mut near = Near { one: end, two: end };
         for k in (0..self.text.len() / 32 + 1).rev() {
-            let marked = self.cell(32 * k, near);
+            let spot: Spot<32> = Spot {
+                code: *self,
+                at: 32 * k,
+                near,
+            };
+            let marked = spot.cell();
             marks[k] = marked.bits;
             near = marked.near;
         }

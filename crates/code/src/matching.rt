@@ -15,6 +15,7 @@ impl CodeText<'_> {
         let text = self.text;
         let mut open = OpenBrackets::one(Bracket::ROUND_CLOSE);
         let mut i = self.next_code(at);
+        // by bytes of code
         while i < text.len() {
             // most bytes are no brackets: they are passed over before the open ones are looked at
             if Bracket::is_one(text[i]) {

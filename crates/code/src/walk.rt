@@ -28,6 +28,7 @@ impl CodeText<'_> {
         ensures { (scan_at self.now.style self.now.text.now from).fault ≡ (scan_at self.now.style self.now.text.now result).fault }
     {
         let mut i = from;
+        // by pieces
         while i < at {
             let Some(next) = self.passed(i) else {
                 return i;

@@ -10,7 +10,7 @@ loop-k-init c = record {
   cells = λ j h g. absurd (omega arith);
 }
 
-pub cell-marked-requires-clause-near_value : goal.cell-marked-requires-clause-near_value
-cell-marked-requires-clause-near_value c =
+pub invariant_of-spot : goal.invariant_of-spot
+invariant_of-spot c =
     let e : 32 * (c.loop-k.k - 1) + 32 ≡ 32 * c.loop-k.k = omega arith in
-    rw e c.loop-k.invariant.flags
+    record { known = rw e c.loop-k.invariant.flags }
