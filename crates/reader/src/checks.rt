@@ -6,7 +6,7 @@ use lexer::{Dialect, Language};
 use refusal::{Reason, Refusal};
 
 // The line's length and bytes, and the buffers.
-pub fn check_call(line: &[u8], text_slots: usize, map_slots: usize) -> Result<(), Refusal>
+pub(crate) fn check_fit(line: &[u8], text_slots: usize, map_slots: usize) -> Result<(), Refusal>
     ensures { result ≡ call_verdict line.now text_slots map_slots }
 {
     refusal::check_text(line)?;

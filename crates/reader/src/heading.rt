@@ -45,7 +45,7 @@ fn head_of(dialect: Dialect, book: &CheckedBook, text: &[u8], slots: usize) -> R
 }
 
 // The head of a line that fits its buffers: refusals 5 to 9, and the joined text with its map at the front of their slots.
-pub fn head_under(
+pub(crate) fn head_of_fit(
     dialect: Dialect,
     book: &CheckedBook,
     line: &[u8],

@@ -24,10 +24,10 @@ fn read_up_to(
     ensures { Leaves (line_within dialect.language dialect.prefix book.now line.now (length text.old) (length map.old) slots (length records.old))
         text.new map.new records.new result }
 {
-    checks::check_call(line, text.len(), map.len())?;
+    checks::check_fit(line, text.len(), map.len())?;
     let mut index = Index::new();
     let book = rulebook::checked(book, &mut index)?;
-    let head = heading::head_under(dialect, &book, line, text, map, slots)?;
+    let head = heading::head_of_fit(dialect, &book, line, text, map, slots)?;
     let joined = &text[..head.length];
     let end = records::read_from(&book, joined, head.start, records)?;
     text[head.length..].fill(0);

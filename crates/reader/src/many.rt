@@ -21,10 +21,10 @@ pub fn line_answer(
     ensures { (bytes : List ℕ) → Judged bytes book.now
         → told result ≡ (line_call dialect.language dialect.prefix bytes line.now (length text.old) (length map.old) slots).answer }
 {
-    checks::check_call(line, text.len(), map.len())?;
+    checks::check_fit(line, text.len(), map.len())?;
     match book {
         Ok(book) => {
-            let head = heading::head_under(dialect, book, line, text, map, slots)?;
+            let head = heading::head_of_fit(dialect, book, line, text, map, slots)?;
             let joined = &text[..head.length];
             let end = clause::many::count_clauses(book, joined, head.start, slots)?;
             Ok(heading::reading(head.name, end))

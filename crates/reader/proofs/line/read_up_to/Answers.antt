@@ -7,12 +7,12 @@ use Rattle.reader.proofs.Checking.{line-call, line-book}
 use Rattle.reader.proofs.Settled.{within-refused, started-for, clauses-refused, line-done, zeros-behind}
 use Rattle.reader.proofs.line.read_up_to.Goals as goal
 
-pub returns-in_err-check_call : goal.returns-in_err-check_call
-returns-in_err-check_call c =
+pub returns-in_err-check_fit : goal.returns-in_err-check_fit
+returns-in_err-check_fit c =
     let a = c.args in
     let p = err_from_is_err_and c.from_residual.result c.from_residual.ensures.1 in
-    rw (p.1, p.2) (within-refused a.dialect.language a.dialect.prefix a.book.now a.line.now a.slots (length a.text.now) (length a.map.now) (length a.records.now) c.in_err-check_call.field-0.0
-    (line-call a.dialect.language a.dialect.prefix a.book.now a.line.now (length a.text.now) (length a.map.now) a.slots c.in_err-check_call.field-0.0 (sym c.check_call.ensures ∙ c.in_err-check_call.was)))
+    rw (p.1, p.2) (within-refused a.dialect.language a.dialect.prefix a.book.now a.line.now a.slots (length a.text.now) (length a.map.now) (length a.records.now) c.in_err-check_fit.field-0.0
+    (line-call a.dialect.language a.dialect.prefix a.book.now a.line.now (length a.text.now) (length a.map.now) a.slots c.in_err-check_fit.field-0.0 (sym c.check_fit.ensures ∙ c.in_err-check_fit.was)))
 
 pub returns-in_err-book : goal.returns-in_err-book
 returns-in_err-book c =
@@ -21,43 +21,43 @@ returns-in_err-book c =
     let p = err_from_is_err_and c.from_residual-in_err-book.result c.from_residual-in_err-book.ensures.1 in
     let h = rw c.in_err-book.was at c.checked.ensures in
     rw (p.1, p.2) (within-refused a.dialect.language a.dialect.prefix a.book.now a.line.now a.slots (length a.text.now) (length a.map.now) (length a.records.now) r
-    (line-book a.dialect.language a.dialect.prefix a.book.now a.line.now (length a.text.now) (length a.map.now) a.slots r r.place (sym c.check_call.ensures ∙ c.in_ok-check_call.was) h.1 (ap refused_by (sym h.0))))
+    (line-book a.dialect.language a.dialect.prefix a.book.now a.line.now (length a.text.now) (length a.map.now) a.slots r r.place (sym c.check_fit.ensures ∙ c.in_ok-check_fit.was) h.1 (ap refused_by (sym h.0))))
 
 pub returns-in_err-head : goal.returns-in_err-head
 returns-in_err-head c =
     let a = c.args in
     let p = err_from_is_err_and c.from_residual-in_err-head.result c.from_residual-in_err-head.ensures.1 in
-    let h = rw c.in_err-head.was at c.head_under.ensures in
+    let h = rw c.in_err-head.was at c.head_of_fit.ensures in
     let b = rw c.in_ok-book.was at c.checked.ensures in
     rw (p.1, p.2) (within-refused a.dialect.language a.dialect.prefix a.book.now a.line.now a.slots (length a.text.now) (length a.map.now) (length a.records.now) c.in_err-head.field-0.0
-    (rw (b, c.head_under.auto.text, c.head_under.auto.map) at h))
+    (rw (b, c.head_of_fit.auto.text, c.head_of_fit.auto.map) at h))
 
 pub read_from-requires : goal.read_from-requires
 read_from-requires c =
-    let h = rw c.in_ok-head.was at c.head_under.ensures in
+    let h = rw c.in_ok-head.was at c.head_of_fit.ensures in
     started-for c.in_ok-book.book.bytes.now _ c.args.slots (length c.args.records.now) c.in_ok-head.head.start c.requires h.heads.started
 
 pub returns-in_err-end : goal.returns-in_err-end
 returns-in_err-end c =
     let a = c.args in
     let p = err_from_is_err_and c.from_residual-in_err-end.result c.from_residual-in_err-end.ensures.1 in
-    let h = rw c.in_ok-head.was at c.head_under.ensures in
+    let h = rw c.in_ok-head.was at c.head_of_fit.ensures in
     let b = rw c.in_ok-book.was at c.checked.ensures in
     let e = sym (ap told c.in_err-end.was) ∙ ap (λ (k : SequenceCall). k.answer) c.read_from.ensures in
     rw (p.1, p.2) (within-refused a.dialect.language a.dialect.prefix a.book.now a.line.now a.slots (length a.text.now) (length a.map.now) (length a.records.now) c.in_err-end.field-0.0
-    (rw (b, c.head_under.auto.text, c.head_under.auto.map) at (clauses-refused a.dialect.language a.dialect.prefix c.in_ok-book.book.bytes.now a.line.now a.slots c.head_under.new.text c.head_under.new.map
+    (rw (b, c.head_of_fit.auto.text, c.head_of_fit.auto.map) at (clauses-refused a.dialect.language a.dialect.prefix c.in_ok-book.book.bytes.now a.line.now a.slots c.head_of_fit.new.text c.head_of_fit.new.map
     c.in_ok-head.head h c.in_err-end.field-0.0 e)))
 
 pub returns : goal.returns
 returns c =
     let a = c.args in
-    let t = c.head_under.new.text in
-    let m = c.head_under.new.map in
+    let t = c.head_of_fit.new.text in
+    let m = c.head_of_fit.new.map in
     let n = c.in_ok-head.head.length in
-    let h = rw c.in_ok-head.was at c.head_under.ensures in
+    let h = rw c.in_ok-head.was at c.head_of_fit.ensures in
     let b = rw c.in_ok-book.was at c.checked.ensures in
     let e = rw c.in_ok-end.was at c.read_from.ensures in
     let l : n + 1 ≤ length m = omega (arith, h.within.1) in
     rw c.reading.ensures
     (line-done a.dialect.language a.dialect.prefix c.in_ok-book.book.bytes.now a.line.now a.slots t m c.in_ok-head.head h (length a.records.now) (length a.text.now) (length a.map.now) a.book.now _ _
-    c.read_from.new.records c.in_ok-end.end b c.head_under.auto.text c.head_under.auto.map e (zeros-behind t c.fill.new.self n h.within.0 (search rules)) (zeros-behind m c.fill-2.new.self (n + 1) l (search rules)))
+    c.read_from.new.records c.in_ok-end.end b c.head_of_fit.auto.text c.head_of_fit.auto.map e (zeros-behind t c.fill.new.self n h.within.0 (search rules)) (zeros-behind m c.fill-2.new.self (n + 1) l (search rules)))

@@ -1,8 +1,8 @@
--- `check_call` meets its contract: each return is a case of the check, by what those before it found.
+-- `check_fit` meets its contract: each return is a case of the check, by what those before it found.
 use Rattle.std.proofs.Common.{sym, ◌∙◌}
 use Rattle.std.proofs.lemmas.Result.{err_from_is_err_and}
 use Rattle.reader.specs.Steps.{call_verdict}
-use Rattle.reader.proofs.checks.check_call.Goals as goal
+use Rattle.reader.proofs.checks.check_fit.Goals as goal
 
 pub returns-in_err-check_text : goal.returns-in_err-check_text
 unfolding call_verdict

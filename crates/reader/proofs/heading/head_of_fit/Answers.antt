@@ -1,10 +1,10 @@
--- `head_under` meets its contract: the physical lines' check, and what joining has written for the name and the clauses.
+-- `head_of_fit` meets its contract: the physical lines' check, and what joining has written for the name and the clauses.
 use Rattle.std.proofs.Common.{◌≤◌, ◌<◌, length, sym, ◌∙◌, arith}
 use lib.Seq.{length-take-le}
 use Rattle.std.proofs.lemmas.Result.{err_from_is_err_and}
 use Rattle.reader.proofs.Checking.{call-fits, case-of, line-physical, line_read}
 use Rattle.reader.proofs.Headed.{gives-joined}
-use Rattle.reader.proofs.heading.head_under.Goals as goal
+use Rattle.reader.proofs.heading.head_of_fit.Goals as goal
 
 pub returns-in_err-check_line : goal.returns-in_err-check_line
 returns-in_err-check_line c =
