@@ -45,14 +45,15 @@ fn eight_stand(name: &[u8], at: usize, between: u8) -> bool
         & stands_behind(g, name[at + 7], between)
 }
 
-// Whether each byte of a name behind its first may stand behind the one before it, by eights; the last eight may overlap those before. They are
-// asked in one place, so that the compiler draws the question in.
+// Whether each byte of a name behind its first may stand behind the one before it, eight at a time. They are asked in one place, so that the
+// compiler draws the question in.
 fn eights_stand(name: &[u8], between: u8) -> bool
     requires { (9 ≤ length name.now) × (is_word (get_or name.now 0 0) ≡ true) }
     ensures { result ≡ true → Standing between name.now 1 (length name.now) }
 {
     let last = name.len() - 8;
     let mut i = 1;
+    // by eights; the last eight may overlap those before
     while i < name.len() {
         let at = i.min(last);
         if !eight_stand(name, at, between) {
@@ -78,7 +79,8 @@ fn each_stands(name: &[u8], between: u8) -> bool
     true
 }
 
-// The same, however many there are.
+// The same, however many there are. No struct holds what this and the two above require of a name: they are one function, told in three for the
+// length of a name.
 fn all_stand(name: &[u8], between: u8) -> bool
     requires { (1 ≤ length name.now) × (is_word (get_or name.now 0 0) ≡ true) }
     ensures { result ≡ true → Standing between name.now 1 (length name.now) }
@@ -136,6 +138,7 @@ fn entries_left(book: &[u8], entries: Entries) -> Entries
         ≡ bad_from (waits entries.lead entries.count c) entries.first (drop entries.first book.now) }
 {
     let mut left = entries;
+    // by entries
     while 0 < left.count {
         match entry_end(book, left.lead, left.first) {
             Some(end) => {

@@ -44,6 +44,7 @@ impl NameIndex {
         let book = listed.book;
         let entries = listed.entries;
         let mut slot = self.heads[mark];
+        // by links
         while slot != 0 {
             let told = (slot - 1) as usize;
             let number = told % 256;

@@ -14,6 +14,7 @@ ghost use Rattle.rulebook.specs.Index.{Fresh, Indexes};
 
 use bookform::{ClauseRule, Entries, format};
 use index::Index;
+use lookup::FormedBook;
 use refusal::{Reason, Refusal};
 
 // What a book's header says.
@@ -54,10 +55,11 @@ pub fn checked<'a>(book: &'a [u8], index: &'a mut Index) -> Result<CheckedBook<'
     if let Some(place) = format::first_bad(book) {
         return Err(Reason::WrongBook.at(place));
     }
-    match repeats::index_names(book, index) {
+    let formed = FormedBook { bytes: book };
+    match formed.index_names(index) {
         Ok(end) => Ok(CheckedBook {
             bytes: book,
-            header: lookup::read_header(book, end),
+            header: formed.header(end),
             index,
         }),
         Err(place) => Err(Reason::WrongBook.at(place)),

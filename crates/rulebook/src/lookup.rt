@@ -1,5 +1,5 @@
 // Reading a book whose form is right: its header, its entries, and names looked up among them.
-ghost use Rattle.std.specs.Prelude.{◌≡◌, ◌≤◌, length, map};
+ghost use Rattle.std.specs.Prelude.{◌≡◌, ℕ, ◌<◌, ◌≤◌, get_or, length, map};
 ghost use Rattle.ascii.specs.Text.{same_by, comparing};
 ghost use Rattle.bookform.specs.Format.{rule_for, HasForm};
 ghost use Rattle.rulebook.specs.Book.{rule_said, name_at, header_of, book_of};
@@ -42,44 +42,51 @@ pub fn name_at(book: &[u8], lead: usize, at: usize) -> Range
     }
 }
 
-// The directive entries of a book whose form is right.
-pub fn directives_of(book: &[u8]) -> Entries
-    requires { HasForm book.now }
-    ensures { result ≡ (header_of book.now).directives }
-{
-    Entries {
-        lead: 0,
-        first: 9,
-        count: usize::from(book[7]),
-    }
+// A book whose form is right. That its items are bytes is a fact here, since the proofs learn it of a parameter that is a slice, not of a field.
+#[derive(Clone, Copy)]
+pub struct FormedBook<'a> {
+    pub bytes: &'a [u8],
+    pub ghost in_range: { (i : ℕ) → get_or bytes.now i 0 < 256 },
+    pub ghost has_form: { HasForm bytes.now },
 }
 
-// Its clause entries, which begin where the directives end.
-pub fn clauses_of(book: &[u8], first: usize) -> Entries
-    requires has_form { HasForm book.now }
-    requires first_value { first ≡ (header_of book.now).clauses.first }
-    ensures { result ≡ (header_of book.now).clauses }
-{
-    Entries {
-        lead: 1,
-        first,
-        count: usize::from(book[8]),
+impl<'a> FormedBook<'a> {
+    // Its directive entries.
+    pub fn directives(self) -> Entries
+        ensures { result ≡ (header_of self.entry.bytes.now).directives }
+    {
+        Entries {
+            lead: 0,
+            first: 9,
+            count: usize::from(self.bytes[7]),
+        }
     }
-}
 
-// The header, once the book's form is right and the place is known where its directives end.
-pub fn read_header(book: &[u8], end: usize) -> Header
-    requires has_form { HasForm book.now }
-    requires end_value { end ≡ (header_of book.now).clauses.first }
-    ensures { result ≡ header_of book.now }
-{
-    let flags = book[5];
-    Header {
-        ignores_case: flags % 2 == 1,
-        optional_blanks: flags / 2 % 2 == 1,
-        default_rule: rule_said(book[6]),
-        directives: directives_of(book),
-        clauses: clauses_of(book, end),
+    // Its clause entries, which begin where the directives end.
+    pub fn clauses(self, first: usize) -> Entries
+        requires { first ≡ (header_of self.bytes.now).clauses.first }
+        ensures { result ≡ (header_of self.entry.bytes.now).clauses }
+    {
+        Entries {
+            lead: 1,
+            first,
+            count: usize::from(self.bytes[8]),
+        }
+    }
+
+    // Its header, once the place is known where its directives end.
+    pub fn header(self, end: usize) -> Header
+        requires { end ≡ (header_of self.bytes.now).clauses.first }
+        ensures { result ≡ header_of self.entry.bytes.now }
+    {
+        let flags = self.bytes[5];
+        Header {
+            ignores_case: flags % 2 == 1,
+            optional_blanks: flags / 2 % 2 == 1,
+            default_rule: rule_said(self.bytes[6]),
+            directives: self.directives(),
+            clauses: self.clauses(end),
+        }
     }
 }
 

@@ -2,13 +2,12 @@
 ghost use Rattle.std.specs.Prelude.{◌≡◌, ℕ, [], None, ◌<◌, ◌≤◌, get_or, MatchResult};
 ghost use Rattle.ascii.specs.Ascii.{fold};
 ghost use Rattle.rulebook.specs.Book.{place_after, entries_in, header_of, book_of};
-ghost use Rattle.bookform.specs.Format.{HasForm};
 ghost use Rattle.rulebook.specs.Check.{is_named, repeat_from, or_else, book_fault};
 ghost use Rattle.rulebook.specs.Signature.{signature as signature_of};
 ghost use Rattle.rulebook.specs.Index.{Indexed, Fresh, Blank, Indexes};
 
 use crate::index::{Index, NameIndex, signature};
-use crate::lookup::{clauses_of, directives_of};
+use crate::lookup::FormedBook;
 use crate::names::Listed;
 
 // Whether an earlier entry has a name, case ignored.
@@ -46,24 +45,25 @@ fn repeat_among(listed: Listed, index: &mut NameIndex) -> Result<usize, usize>
     Ok(at)
 }
 
-// The place of the first repeat of a book whose form is right, among the directives, else among the clauses, as the error; else where the
-// directives end, and the index is whole.
-pub fn index_names(book: &[u8], index: &mut Index) -> Result<usize, usize>
-    requires has_form { HasForm book.now }
-    requires fresh { Fresh index.old }
-    ensures { MatchResult result
-        (λ end. (book_fault book.now ≡ None) × (Indexes book.now index.new) × (end ≡ (header_of book.now).clauses.first))
-        (λ place. book_fault book.now ≡ Some place) }
-{
-    let directives = Listed {
-        book,
-        entries: directives_of(book),
-    };
-    let end = repeat_among(directives, &mut index.directives)?;
-    let clauses = Listed {
-        book,
-        entries: clauses_of(book, end),
-    };
-    repeat_among(clauses, &mut index.clauses)?;
-    Ok(end)
+impl<'a> FormedBook<'a> {
+    // The place of the first repeat, among the directives, else among the clauses, as the error; else where the directives end, and the index is
+    // whole.
+    pub fn index_names(self, index: &mut Index) -> Result<usize, usize>
+        requires { Fresh index.old }
+        ensures { MatchResult result
+            (λ end. (book_fault self.entry.bytes.now ≡ None) × (Indexes self.entry.bytes.now index.new) × (end ≡ (header_of self.entry.bytes.now).clauses.first))
+            (λ place. book_fault self.entry.bytes.now ≡ Some place) }
+    {
+        let directives = Listed {
+            book: self.bytes,
+            entries: self.directives(),
+        };
+        let end = repeat_among(directives, &mut index.directives)?;
+        let clauses = Listed {
+            book: self.bytes,
+            entries: self.clauses(end),
+        };
+        repeat_among(clauses, &mut index.clauses)?;
+        Ok(end)
+    }
 }
