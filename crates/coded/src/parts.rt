@@ -23,6 +23,7 @@ pub fn part_end(size: usize, at: usize, end: usize) -> usize
 fn clear<const N: usize>(slots: &mut [[u64; N]])
     ensures { slots.new ≡ replicate (length slots.old) (replicate N 0) }
 {
+    // of its own: an array made inside the loop has no proof yet
     let zeros = [0; N];
     for slot in slots.iter_mut() {
         *slot = zeros;
@@ -43,6 +44,7 @@ pub fn answer_parts<const N: usize, A: AnswerPart<N>>(
 {
     let n = ends.len().min(answers.len());
     let mut at = 0;
+    // by an index: into the ends and the slots alike
     for i in 0..n {
         let stop = part_end(bytes.len(), at, ends[i]);
         answers[i] = by.answer(&bytes[at..stop]);

@@ -33,6 +33,7 @@ pub fn fit(bytes: &[u8])
 fn agrees(name: &[u8], candidate: &[u8], how: Comparison) -> bool
     ensures { result ≡ agrees_in how name.now candidate.now }
 {
+    // bools by `&` and `|`: these are asked of each byte, without a branch
     let ignore_case = how.ignore_case | how.compact;
     let mut j = solid_from(candidate, 0, how.compact);
     for x in name {
