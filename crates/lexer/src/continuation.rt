@@ -166,37 +166,55 @@ pub fn break_f(rest: &[u8]) -> usize
     next + lead(&rest[next..])
 }
 
-// A place from which on no line ends: behind the last end of line.
-pub fn last_end(text: &[u8]) -> usize
-    ensures { Unended text.now result }
-{
-    match text.iter().rposition(|b| ascii::class::is_eol(*b)) {
-        Some(i) => i + 1,
-        None => 0,
-    }
+// A text and a place from which on no line ends, so that no continuation begins from there on: the comments behind a row of `&` are not walked to the end of
+// the text for each of them.
+#[derive(Clone, Copy)]
+pub struct Lines<'a> {
+    pub text: &'a [u8],
+    ends: usize,
+    ghost unended: { Unended text.now ends },
 }
 
-// A place from which on no line ends, by one that is known. It is sought once, where the first `&` stands: until then it is the text's length, which is
-// such a place too, so that no state says whether it was sought. Where the text ends in an end of line the search is over at once.
-pub fn ends_before(text: &[u8], at: usize, ends: usize) -> usize
-    requires { Unended text.now ends }
-    ensures { Unended text.now result }
-{
-    if ends == text.len() && ascii::byte_at(text, at) == b'&' {
-        return last_end(text);
+impl<'a> Lines<'a> {
+    // The place is behind the last end of line.
+    pub fn sought(text: &'a [u8]) -> Lines<'a>
+        ensures { result.text.now ≡ text.now }
+    {
+        let ends = match text.iter().rposition(|b| ascii::class::is_eol(*b)) {
+            Some(i) => i + 1,
+            None => 0,
+        };
+        Lines { text, ends }
     }
-    ends
-}
 
-// The same as `break_f` where no line ends from a place on: there is no continuation from there on, so that the comments behind a row of `&` are not
-// walked to the end of the text for each of them.
-pub fn break_f_before(text: &[u8], at: usize, ends: usize) -> usize
-    requires { (at ≤ length text.now) × Unended text.now ends }
-    ensures value { result ≡ break_f (drop at text.now) }
-    ensures within { at + result ≤ length text.now }
-{
-    if ends <= at {
-        return 0;
+    // The place is the text's end, which is such a place too, so that no state says whether it was sought.
+    pub fn unsought(text: &'a [u8]) -> Lines<'a>
+        ensures { result.text.now ≡ text.now }
+    {
+        Lines {
+            text,
+            ends: text.len(),
+        }
     }
-    break_f(&text[at..])
+
+    // Seeks the place once, where the first `&` stands. Where the text ends in an end of line the search is over at once.
+    pub fn seek_at(&mut self, at: usize)
+        ensures { self.new.text.now ≡ self.old.text.now }
+    {
+        if self.ends == self.text.len() && ascii::byte_at(self.text, at) == b'&' {
+            *self = Lines::sought(self.text);
+        }
+    }
+
+    // The continuation of Fortran at a place.
+    pub fn break_f(&self, at: usize) -> usize
+        requires { at ≤ length self.now.text.now }
+        ensures value { result ≡ break_f (drop at self.now.text.now) }
+        ensures within { at + result ≤ length self.now.text.now }
+    {
+        if self.ends <= at {
+            return 0;
+        }
+        break_f(&self.text[at..])
+    }
 }

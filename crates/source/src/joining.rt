@@ -1,10 +1,10 @@
 // Joining: each continuation goes, every other byte is kept with its physical place.
 ghost use Rattle.std.specs.Prelude.{◌≡◌, ◌+◌, ◌<◌, ◌≤◌, length, take, drop};
 ghost use Rattle.refusal.specs.Answer.{max_length};
-ghost use Rattle.lexer.specs.Continuation.{Unended};
 ghost use Rattle.source.specs.Joining.{cut_of, joined_text, joined_map, any_cut, collapsed};
 
 use crate::runs;
+use lexer::continuation::Lines;
 use lexer::{Language, continuation};
 
 // The bytes of the continuation of a language that a text begins with; 0 for none, which a walk adds as it is.
@@ -18,40 +18,38 @@ pub fn cut_at(language: Language, rest: &[u8]) -> usize
     }
 }
 
-// The same at a place of a text in which no line ends from another place on, which is known once for all places.
-fn cut_before(language: Language, text: &[u8], at: usize, ends: usize) -> usize
-    requires { (at ≤ length text.now) × Unended text.now ends }
-    ensures value { result ≡ cut_of language (drop at text.now) }
-    ensures result_in_bounds { at + result ≤ length text.now }
+// The same at a place of a text of which it is known from where on no line ends.
+fn cut_before(language: Language, lines: &Lines<'_>, at: usize) -> usize
+    requires { at ≤ length lines.now.text.now }
+    ensures value { result ≡ cut_of language (drop at lines.now.text.now) }
+    ensures result_in_bounds { at + result ≤ length lines.now.text.now }
 {
     match language {
-        Language::C => continuation::break_c(&text[at..]),
-        Language::FortranFree | Language::FortranFixed => {
-            continuation::break_f_before(text, at, ends)
-        }
+        Language::C => continuation::break_c(&lines.text[at..]),
+        Language::FortranFree | Language::FortranFixed => lines.break_f(at),
     }
 }
 
 // The same of either language.
-fn any_cut_before(text: &[u8], at: usize, ends: usize) -> usize
-    requires { (at ≤ length text.now) × Unended text.now ends }
-    ensures value { result ≡ any_cut (drop at text.now) }
-    ensures result_in_bounds { at + result ≤ length text.now }
+fn any_cut_before(lines: &Lines<'_>, at: usize) -> usize
+    requires { at ≤ length lines.now.text.now }
+    ensures value { result ≡ any_cut (drop at lines.now.text.now) }
+    ensures result_in_bounds { at + result ≤ length lines.now.text.now }
 {
-    let gone = continuation::break_c(&text[at..]);
+    let gone = continuation::break_c(&lines.text[at..]);
     if 0 < gone {
         return gone;
     }
-    continuation::break_f_before(text, at, ends)
+    lines.break_f(at)
 }
 
-// A place from which on no line ends; in C, where nothing asks for it, the line's end.
-fn ends_of(language: Language, line: &[u8]) -> usize
-    ensures { Unended line.now result }
+// A line with the place from which on no line ends; in C, where nothing asks for it, it is not sought.
+fn lines_of<'a>(language: Language, line: &'a [u8]) -> Lines<'a>
+    ensures { result.text.now ≡ line.now }
 {
     match language {
-        Language::C => line.len(),
-        Language::FortranFree | Language::FortranFixed => continuation::last_end(line),
+        Language::C => Lines::unsought(line),
+        Language::FortranFree | Language::FortranFixed => Lines::sought(line),
     }
 }
 
@@ -67,9 +65,10 @@ pub fn join_into(language: Language, line: &[u8], text: &mut [u8], map: &mut [u1
 {
     let mut i = 0;
     let mut k = 0;
-    let ends = ends_of(language, line);
+    let lines = lines_of(language, line);
+    // by a byte that stays, or a break that goes
     while i < line.len() {
-        let gone = cut_before(language, line, i, ends);
+        let gone = cut_before(language, &lines, i);
         let stays = gone == 0;
         if stays {
             text[k] = line[i];
@@ -93,10 +92,11 @@ pub fn copy_into(content: &[u8], copy: &mut [u8]) -> usize
 {
     let mut i = 0;
     let mut k = 0;
-    let mut ends = content.len();
+    let mut lines = Lines::unsought(content);
+    // by runs and breaks
     while i < content.len() {
-        ends = continuation::ends_before(content, i, ends);
-        let gone = any_cut_before(content, i, ends);
+        lines.seek_at(i);
+        let gone = any_cut_before(&lines, i);
         if gone == 0 {
             let run = &content[i..runs::plain_end(content, i + 1)];
             copy[k..k + run.len()].copy_from_slice(run);

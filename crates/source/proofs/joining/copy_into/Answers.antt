@@ -14,7 +14,8 @@ loop-i-preserved-then-gone-eq0 c =
     let i = c.loop-i.i in
     let end = c.plain_end.result in
     let run = take (end - i) (drop i t) in
-    let none = sym c.if-gone-eq0.true ∙ c.any_cut_before-gone.ensures.value in
+    let same = c.seek_at.ensures ∙ c.loop-i.invariant.text in
+    let none = sym c.if-gone-eq0.true ∙ rw same at c.any_cut_before-gone.ensures.value in
     let s : Stays t i end = stays-first t i end c.loop-i-test.true none c.plain_end.ensures in
     let o : i ≤ end = s.ordered in
     let w : end ≤ length t = s.within in
@@ -25,16 +26,19 @@ loop-i-preserved-then-gone-eq0 c =
       behind = omega arith;
       within = omega arith;
       copy = rw part (copied t c.loop-i.copy run i c.loop-i.k end (omega arith) s refl c.loop-i.invariant.copy);
-      ends = c.ends_before-ends.ensures;
+      text = same;
     }
 
 pub loop-i-preserved : goal.loop-i-preserved
 loop-i-preserved c =
+    let same = c.seek_at.ensures ∙ c.loop-i.invariant.text in
+    let cut = rw same at c.any_cut_before-gone.ensures.value in
+    let fits = rw same at c.any_cut_before-gone.ensures.result_in_bounds in
     record {
       behind = omega arith;
       within = omega arith;
-      copy = rw (← kept-jump any_cut, c.loop-i-test.true, c.any_cut_before-gone.ensures.value, c.if-gone-eq0.false) c.loop-i.invariant.copy;
-      ends = c.ends_before-ends.ensures;
+      copy = rw (← kept-jump any_cut, c.loop-i-test.true, cut, c.if-gone-eq0.false) c.loop-i.invariant.copy;
+      text = same;
     }
 
 pub returns-clause-count : goal.returns-clause-count

@@ -1,6 +1,5 @@
 -- What is written, with what stays of the rest of the content, is the whole.
 use Rattle.std.proofs.Common.{◌≡◌, ◌++◌, ◌-◌, ◌≤◌, length, take}
-use Rattle.lexer.specs.Continuation.{Unended}
 use Rattle.source.specs.Staying.{staying}
 use Rattle.source.proofs.joining.copy_into.Given as goal
 
@@ -10,7 +9,7 @@ invariant-loop-i l =
       behind : l.k ≤ l.i;
       within : l.i ≤ length l.content;
       copy : take l.k l.copy ++ staying l.content l.i ≡ staying l.content 0;
-      ends : Unended l.content l.ends;
+      text : l.lines.text.now ≡ l.content;
     }
 
 abbrev pub decreases-loop-i : goal.decreases-loop-i

@@ -10,7 +10,8 @@ use Rattle.source.proofs.joining.join_into.Goals as goal
 pub loop-i-preserved-then-stays : goal.loop-i-preserved-then-stays
 loop-i-preserved-then-stays c =
     let l = c.loop-i in
-    let none = sym c.if-stays.true ∙ c.cut_before-gone.ensures.value in
+    let cut = rw c.lines_of-lines.ensures at c.cut_before-gone.ensures.value in
+    let none = sym c.if-stays.true ∙ cut in
     let a : l.k < length l.text = omega arith in
     let b : l.k < length l.map = omega arith in
     record {
@@ -23,11 +24,13 @@ loop-i-preserved-then-stays c =
 pub loop-i-preserved : goal.loop-i-preserved
 loop-i-preserved c =
     let l = c.loop-i in
+    let cut = rw c.lines_of-lines.ensures at c.cut_before-gone.ensures.value in
+    let fits = rw c.lines_of-lines.ensures at c.cut_before-gone.ensures.result_in_bounds in
     record {
       behind = omega arith;
       within = omega arith;
-      text = rw (← kept-jump, c.loop-i-test.true, c.cut_before-gone.ensures.value, c.if-stays.false) l.invariant.text;
-      map = rw (← kept-jump, c.loop-i-test.true, c.cut_before-gone.ensures.value, c.if-stays.false) l.invariant.map;
+      text = rw (← kept-jump, c.loop-i-test.true, cut, c.if-stays.false) l.invariant.text;
+      map = rw (← kept-jump, c.loop-i-test.true, cut, c.if-stays.false) l.invariant.map;
     }
 
 pub returns-clause-count : goal.returns-clause-count
