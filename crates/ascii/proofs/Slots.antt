@@ -1,21 +1,18 @@
 -- A slice that is filled from the front: its first k slots are written, and `take k slots ++ what is still to come` is the whole.
--- `pushed` is a store at k, `complete` the end; `zeros-behind` is a fill with zeros behind the first n. Assumes nothing.
+-- `pushed` is a store at k; `zeros-behind` is a fill with zeros behind the first n. Assumes nothing.
 use mathlib.Core.Path.{◌≡◌, ◌∙◌}
 use mathlib.Core.List.{List, [], ◌∷◌, ◌++◌, append_assoc, append-nil}
 use Prim.Native.Nat.{ℕ, ◌+◌, ◌-◌, ◌<◌, ◌≤◌}
 use native.Mathlib.Numerals.{add-one}
 use native.Mathlib.Omega.{arith}
 use lib.ListN.{length, take, set, replicate, drop_of_length-le}
-use lib.Seq.{take-suc-set, take_all, length-take-le, drop-drop}
+use lib.Seq.{take-suc-set, length-take-le, drop-drop}
 use borrow.Rule.Slice.PartMut.{put_mid, post_of}
 use Rattle.ascii.specs.Text.{padded}
 
 module _ {A : Type 0} where
   pub pushed : (t : List A) (k : ℕ) (a : A) (rest : List A) → k < length t → take (k + 1) (set t k a) ++ rest ≡ take k t ++ a ∷ rest
   pushed t k a rest h = rw (add-one, take-suc-set, append_assoc)
-
-  pub complete : (t : List A) (k : ℕ) → length t ≤ k → take k t ++ [] ≡ t
-  complete t k h = rw (take_all, append-nil)
 
   -- all but the first n slots are zeroed
   pub zeros-behind : (z : A) (xs ys : List A) (n : ℕ) → n ≤ length xs → ys ≡ replicate (length xs - n) z → put_mid n (length xs - n) xs ys ≡ take n xs ++ replicate (length xs - n) z

@@ -1,7 +1,7 @@
 -- Laws of runs, comparing and the first high byte, at a place of a text in the terms of a loop; of trimming; and of dropping to a place.
 -- Assumes nothing.
 use mathlib.Core.Path.{◌≡◌, refl, ap, ◌∙◌}
-use mathlib.Core.Bool.{Bool, true, false, cond, ◌&&◌, and-false}
+use mathlib.Core.Bool.{Bool, true, false, cond, not, ◌&&◌, and-false}
 use Rattle.std.specs.Prelude.{Some, None}
 use mathlib.Core.List.{List, [], ◌∷◌, ◌++◌, reverse, reverse-append, reverse-cons}
 use Prim.Native.Nat.{ℕ, zero, suc, ◌+◌, ◌-◌, ◌<◌, ◌≤◌}
@@ -10,13 +10,14 @@ use native.Mathlib.Numerals.{add-one}
 use native.Mathlib.Omega.{arith}
 use lib.ListN.{length, take, drop, get_or, length-reverse, length-drop}
 use lib.Seq.{drop-cons, split_at, append_snoc}
-use lib.Dec.{eqb, ltb, leb}
+use lib.Dec.{eqb, ltb, leb, leb-suc-suc}
 use Rattle.std.specs.List.{prefix_len, list_all, zip}
-use Rattle.std.proofs.lemmas.List.Sums.{prefix_len_is, suffix_len_is}
+use Rattle.std.proofs.lemmas.List.{get_or-reverse}
+use Rattle.std.proofs.lemmas.List.Sums.{prefix_len_is, prefix_len_passes, suffix_len_is}
 use borrow.Author.Tests.{lt-ltb, le-ltb, leb-true, leb-false, eq-eqb, ne_eqb, eqb-true, eqb-false}
 use Rattle.ascii.specs.declared.Range.{Range}
 use Rattle.ascii.specs.Ascii.{is_trimmed, is_low}
-use Rattle.ascii.specs.Text.{leading, trimmed, begins, first_high}
+use Rattle.ascii.specs.Text.{leading, past, up_to, trimmed, begins, first_high}
 use Rattle.ascii.proofs.Flags.{and_left, and_right, by_cases}
 
 -- runs
@@ -44,6 +45,14 @@ leading_is p xs n h before here = leading_counts p xs ∙ prefix_len_is p xs n 0
 pub trailing_is : (p : ℕ → Bool) (xs : List ℕ) (n : ℕ) → n ≤ length xs → ((k : ℕ) → n ≤ k → k < length xs → p (get_or xs k 0) ≡ true) → (0 < n → p (get_or xs (n - 1) 0) ≡ false)
     → n ≡ length xs - leading p (reverse xs)
 trailing_is p xs n h after here = omega (arith, leading_counts p (reverse xs), suffix_len_is p xs n 0 h after here)
+
+-- each byte of the run at the end has the property
+pub trailing_passes : (p : ℕ → Bool) (xs : List ℕ) (j : ℕ) → length xs - leading p (reverse xs) ≤ j → j < length xs → p (get_or xs j 0) ≡ true
+trailing_passes p xs j h b =
+    let k = length xs - 1 - j in
+    let m = prefix_len_passes p (reverse xs) k 0 (omega (arith, leading_counts p (reverse xs))) in
+    let e : length xs - 1 - k ≡ j = omega arith in
+    rw (get_or-reverse xs k 0 (omega arith), e) at m
 
 module _ (p : ℕ → Bool) (s : List ℕ) (i : ℕ) where
   pub leading-more : i < length s → p (get_or s i 0) ≡ true → leading p (drop i s) ≡ suc (leading p (drop (i + 1) s))
@@ -97,6 +106,30 @@ leading-apart p xs h =
     in
     let f = leading-bounded p (reverse rest) b (reverse (take k xs)) (leading-stops p xs h) in
     omega (arith, rw (← e) at f, length-reverse rest, length-drop (suc k) xs)
+
+-- up to and with the first byte that has a property: the run of the others, and that byte if there is one
+pub up-to : (p : ℕ → Bool) (xs : List ℕ) → up_to p xs ≡ past (λ b. not (p b)) xs
+unfolding up_to leading
+up-to p [] = refl
+up-to p (x ∷ xs) = go (p x) (up-to p xs)
+  where
+    go : (b : Bool) → up_to p xs ≡ past (λ b. not (p b)) xs
+        → cond b 1 (suc (up_to p xs))
+        ≡ cond (not b) (suc (leading (λ b. not (p b)) xs)) 0 + cond (ltb (cond (not b) (suc (leading (λ b. not (p b)) xs)) 0) (suc (length xs))) 1 0
+    go true h = rw (lt-ltb 0 (suc (length xs)) (omega arith)) refl
+    go false h = rw (h, leb-suc-suc) (omega arith)
+
+-- the end of a run with the byte behind it, by the end e of the run
+module _ (p : ℕ → Bool) (s : List ℕ) (i e : ℕ) (r : e ≡ i + leading p (drop i s)) where
+  pub past-more : e < length s → e + 1 ≡ i + past p (drop i s)
+  past-more h =
+      let n = length-drop i s in
+      rw (lt-ltb (leading p (drop i s)) (length (drop i s)) (omega arith)) (omega arith)
+
+  pub past-all : length s ≤ e → e ≡ i + past p (drop i s)
+  past-all h =
+      let n = length-drop i s in
+      rw (le-ltb (leading p (drop i s)) (length (drop i s)) (omega arith)) (omega arith)
 
 -- comparing: byte by byte, where the text is as long as the word
 pub begins-zip : (f : ℕ → ℕ) (w s : List ℕ) → length w ≤ length s → begins f w s ≡ list_all (λ p. eqb (f p.0) (f p.1)) (zip w s)

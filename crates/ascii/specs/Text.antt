@@ -20,6 +20,10 @@ unfoldable pub leading : (ℕ → Bool) → List ℕ → ℕ
 leading p [] = zero
 leading p (x ∷ xs) = cond (p x) (suc (leading p xs)) zero
 
+-- the same with the byte behind them, if there is one
+abbrev pub past : (ℕ → Bool) → List ℕ → ℕ
+past p xs = leading p xs + cond (ltb (leading p xs) (length xs)) 1 0
+
 -- the number of bytes up to and with the first that has the property, or all
 unfoldable pub up_to : (ℕ → Bool) → List ℕ → ℕ
 up_to p [] = zero

@@ -1,6 +1,6 @@
 // The classes of the 256 bytes, the questions that steps ask of a byte, by its class or before it, and the fold of a letter.
-ghost use Rattle.std.specs.Prelude.{◌≡◌, ◌<◌};
-ghost use Rattle.ascii.specs.Ascii.{class_of, is_trimmed, is_space, is_blank, is_eol, is_digit, is_letter, is_word, fold as folded};
+ghost use Rattle.std.specs.Prelude.{◌≡◌, ◌≤◌};
+ghost use Rattle.ascii.specs.Ascii.{within, class_of, is_trimmed, is_space, is_blank, is_eol, is_digit, is_letter, is_word, fold as folded};
 
 // Numbers and no enum, so that a range of classes is one comparison: the table of 256 class numbers is a form that the project names.
 // 1 blank and tab, 2 LF and CR, 3 FF, 4 VT, 5 digits, 6 upper-case letters, 7 lower-case letters, 8 underscore, 0 any other byte.
@@ -25,54 +25,47 @@ pub fn class_of(b: u8) -> u8
     TABLE[b as usize]
 }
 
-// The common bytes are answered by a comparison before their class is asked for.
+// White space of the classes from 1 to a last one. The common bytes are answered by a comparison before their class is asked for.
+fn is_white<const LAST: u8>(b: u8) -> bool
+    requires { (1 ≤ LAST) × (LAST ≤ 4) }
+    ensures { result ≡ within 1 LAST (class_of b) }
+{
+    if b' ' < b {
+        return false;
+    }
+    if b == b' ' {
+        return true;
+    }
+    let k = class_of(b);
+    (1 <= k) & (k <= LAST)
+}
 
 // What trimming takes: 9 to 13 and 32.
 pub fn is_trimmed(b: u8) -> bool
     ensures { result ≡ is_trimmed b }
 {
-    if 32 < b {
-        return false;
-    }
-    if b == 32 {
-        return true;
-    }
-    let k = class_of(b);
-    (1 <= k) & (k <= 4)
+    is_white::<4>(b)
 }
 
 // White space of trivia: 9, 10, 12, 13 and 32.
 pub fn is_space(b: u8) -> bool
     ensures { result ≡ is_space b }
 {
-    if 32 < b {
-        return false;
-    }
-    if b == 32 {
-        return true;
-    }
-    let k = class_of(b);
-    (1 <= k) & (k <= 3)
+    is_white::<3>(b)
 }
 
 // Blank or tab.
 pub fn is_blank(b: u8) -> bool
     ensures { result ≡ is_blank b }
 {
-    if 32 < b {
-        return false;
-    }
-    if b == 32 {
-        return true;
-    }
-    class_of(b) == 1
+    is_white::<1>(b)
 }
 
 // LF or CR.
 pub fn is_eol(b: u8) -> bool
     ensures { result ≡ is_eol b }
 {
-    if 13 < b {
+    if b'\r' < b {
         return false;
     }
     class_of(b) == 2
@@ -88,7 +81,7 @@ pub fn is_digit(b: u8) -> bool
 pub fn is_letter(b: u8) -> bool
     ensures { result ≡ is_letter b }
 {
-    ((65 <= b) & (b <= 90)) | ((97 <= b) & (b <= 122))
+    ((b'A' <= b) & (b <= b'Z')) | ((b'a' <= b) & (b <= b'z'))
 }
 
 // A byte of a word: a letter, a digit or `_`.
@@ -99,10 +92,10 @@ pub fn is_word(b: u8) -> bool
         return true;
     }
     // what mostly ends a word: blanks, parentheses, the comma
-    if b < 48 {
+    if b < b'0' {
         return false;
     }
-    if (b <= 57) | (b == 95) {
+    if (b <= b'9') | (b == b'_') {
         return true;
     }
     5 <= class_of(b)

@@ -6,7 +6,7 @@ pub mod sets;
 
 ghost use Rattle.std.specs.Prelude.{◌≡◌, reverse, ◌++◌, ◌+◌, ◌-◌, ◌≤◌, length, take, drop, get_or, eqb};
 ghost use Rattle.ascii.specs.Ascii.{is_trimmed};
-ghost use Rattle.ascii.specs.Text.{leading, trimmed, LentPart, trim_call, begins, first_high, comparing};
+ghost use Rattle.ascii.specs.Text.{leading, past, trimmed, LentPart, trim_call, begins, first_high, comparing};
 
 use sets::{ByteSet, Low, Trimmed};
 
@@ -17,14 +17,15 @@ pub struct Range {
     pub end: usize,
 }
 
-// The byte at a place, and 0 past the end, which no rule asks for.
+// The byte at a place, and 0 past the end, which no rule asks for: the definitions read a text so too, and a caller compares the byte with no Option around it.
 pub fn byte_at(text: &[u8], at: usize) -> u8
     ensures { result ≡ get_or text.now at 0 }
 {
     if at < text.len() { text[at] } else { 0 }
 }
 
-// The end of the run of a set's bytes that starts at a place.
+// The end of the run of a set's bytes that starts at a place. Places are plain numbers in all crates, with their bound in each contract: a struct of a text and
+// a place would be made anew at each step of a walk.
 pub fn run_end<S: ByteSet>(text: &[u8], from: usize) -> usize
     requires { from ≤ length text.now }
     ensures value { result ≡ from + leading S.holds (drop from text.now) }
@@ -36,11 +37,22 @@ pub fn run_end<S: ByteSet>(text: &[u8], from: usize) -> usize
     }
 }
 
-// The end of a text without the bytes that trimming takes off its end.
-pub fn trimmed_end(text: &[u8]) -> usize
-    ensures { result ≡ length text.now - leading is_trimmed (reverse text.now) }
+// The end of the run of a set's bytes that starts at a place, with the byte behind it if there is one.
+pub fn past_run<S: ByteSet>(text: &[u8], from: usize) -> usize
+    requires { from ≤ length text.now }
+    ensures value { result ≡ from + past S.holds (drop from text.now) }
+    ensures lower_bound { (from ≤ result) × (result ≤ length text.now) }
 {
-    match text.iter().rposition(|b| !class::is_trimmed(*b)) {
+    let end = run_end::<S>(text, from);
+    if end < text.len() { end + 1 } else { end }
+}
+
+// The place from which on a text has bytes of a set alone: behind the last that is none.
+pub fn run_start<S: ByteSet>(text: &[u8]) -> usize
+    ensures value { result ≡ length text.now - leading S.holds (reverse text.now) }
+    ensures within { result ≤ length text.now }
+{
+    match text.iter().rposition(|b| !S::has(*b)) {
         Some(i) => i + 1,
         None => 0,
     }
@@ -55,7 +67,7 @@ pub fn trim_range(text: &[u8]) -> Range
     if start == text.len() {
         return Range { start: 0, end: 0 };
     }
-    let end = trimmed_end(text);
+    let end = run_start::<Trimmed>(text);
     Range { start, end }
 }
 
@@ -106,15 +118,16 @@ pub fn begins_at(text: &[u8], at: usize, word: &[u8], ignore_case: bool) -> bool
             .all(|(a, b)| same_byte(*a, *b, ignore_case))
 }
 
-// The same for a long run of a set whose question is a mere comparison: one branch for eight bytes.
+// What `run_end` gives, for a long run of a set whose question is a mere comparison: one branch for sixteen bytes. They are written out, as an `all` over them
+// would have a branch for each.
 pub fn long_run_end<S: ByteSet>(text: &[u8], from: usize) -> usize
     requires { from ≤ length text.now }
     ensures value { result ≡ from + leading S.holds (drop from text.now) }
     ensures lower_bound { (from ≤ result) × (result ≤ length text.now) }
 {
     let mut i = from;
-    // in steps of eight: byte by byte it is slower
-    while i + 8 <= text.len() {
+    // in steps of sixteen: byte by byte it is slower
+    while i + 16 <= text.len() {
         let all = S::has(text[i])
             & S::has(text[i + 1])
             & S::has(text[i + 2])
@@ -122,11 +135,19 @@ pub fn long_run_end<S: ByteSet>(text: &[u8], from: usize) -> usize
             & S::has(text[i + 4])
             & S::has(text[i + 5])
             & S::has(text[i + 6])
-            & S::has(text[i + 7]);
+            & S::has(text[i + 7])
+            & S::has(text[i + 8])
+            & S::has(text[i + 9])
+            & S::has(text[i + 10])
+            & S::has(text[i + 11])
+            & S::has(text[i + 12])
+            & S::has(text[i + 13])
+            & S::has(text[i + 14])
+            & S::has(text[i + 15]);
         if !all {
             break;
         }
-        i += 8;
+        i += 16;
     }
     run_end::<S>(text, i)
 }

@@ -9,10 +9,9 @@ use native.Mathlib.Nat.{zero-add}
 use native.Mathlib.Numerals.{add-one}
 use native.Mathlib.Omega.{arith}
 use lib.ListN.{length, take, get_or}
-use borrow.Author.Tests.{le-ltb, ne_eqb}
+use borrow.Author.Tests.{le-ltb, ne_eqb, ltb-true, ltb-false}
 use lib.Dec.{ltb}
 use Rattle.ascii.proofs.Flags.{by_cases}
-use borrow.Author.Tests.{ltb-true, ltb-false}
 use Rattle.bookform.specs.declared.Expect.{Expect}
 use Rattle.bookform.specs.declared.Expect.TheVariants.{HeaderByte, ClauseCount, DirectiveLength, DirectiveName, Rule, ClauseLength, ClauseName, End}
 use Rattle.bookform.specs.Format.{is_header, clauses_left, directives_left, stepped, ended_at, bad_from}
@@ -48,25 +47,16 @@ word-ends (suc n) c at = let (r, h, y) = word-ends n c (suc at) in (97 ∷ r, h,
 abbrev plain : List ℕ
 plain = 68 ∷ 82 ∷ 66 ∷ 0 ∷ 1 ∷ 0 ∷ 0 ∷ []
 
-plain-good : (i : ℕ) → i < 7 → is_header i (get_or plain i 0) ≡ true
-plain-good zero h = refl
-plain-good (suc zero) h = refl
-plain-good (suc (suc zero)) h = refl
-plain-good (suc (suc (suc zero))) h = refl
-plain-good (suc (suc (suc (suc zero)))) h = refl
-plain-good (suc (suc (suc (suc (suc zero))))) h = refl
-plain-good (suc (suc (suc (suc (suc (suc zero)))))) h = refl
-plain-good (suc (suc (suc (suc (suc (suc (suc i))))))) h = absurd (omega arith)
-
-plain_byte : (i : ℕ) → i < 7 → ltb (get_or plain i 0) 256 ≡ true
-plain_byte zero h = refl
-plain_byte (suc zero) h = refl
-plain_byte (suc (suc zero)) h = refl
-plain_byte (suc (suc (suc zero))) h = refl
-plain_byte (suc (suc (suc (suc zero)))) h = refl
-plain_byte (suc (suc (suc (suc (suc zero))))) h = refl
-plain_byte (suc (suc (suc (suc (suc (suc zero)))))) h = refl
-plain_byte (suc (suc (suc (suc (suc (suc (suc i))))))) h = absurd (omega arith)
+-- each of its bytes is good in its place, and a byte
+plain_at : (i : ℕ) → i < 7 → (is_header i (get_or plain i 0) ≡ true) × (ltb (get_or plain i 0) 256 ≡ true)
+plain_at zero h = (refl, refl)
+plain_at (suc zero) h = (refl, refl)
+plain_at (suc (suc zero)) h = (refl, refl)
+plain_at (suc (suc (suc zero))) h = (refl, refl)
+plain_at (suc (suc (suc (suc zero)))) h = (refl, refl)
+plain_at (suc (suc (suc (suc (suc zero))))) h = (refl, refl)
+plain_at (suc (suc (suc (suc (suc (suc zero)))))) h = (refl, refl)
+plain_at (suc (suc (suc (suc (suc (suc (suc i))))))) h = absurd (omega arith)
 
 counts_end : (d : ℕ) → Ends (ClauseCount d)
 unfolding bad_from Ends
@@ -87,7 +77,8 @@ header-ends zero i l at = last-ends i (omega arith) at
 header-ends (suc k) i l at =
     by_cases (ltb i 7)
     (λ t. let (r, h, y) = header-ends k (i + 1) (omega arith) (suc at) in
-    (get_or plain i 0 ∷ r, rw (bad_from, plain-good i (ltb-true _ _ t), t) h, rw (plain_byte i (ltb-true _ _ t)) y))
+    let (g, b) = plain_at i (ltb-true _ _ t) in
+    (get_or plain i 0 ∷ r, rw (bad_from, g, t) h, rw b y))
     (λ t. last-ends i (ltb-false i 7 t) at)
 
 ends : (e : Expect) → Ends e

@@ -1,23 +1,24 @@
--- A book has no fault, repeats aside, exactly if it has the form that document 01 describes: reading takes it apart entry by entry, and
--- what is put together so is read without a fault. Assumes nothing.
+-- A book has no fault, repeats aside, exactly if it has the form that document 01 describes: what is put together so is read without a
+-- fault (Composing), and here reading takes it apart byte by byte and entry by entry. Assumes nothing.
 use mathlib.Core.Path.{◌≡◌, refl, sym, ap, ◌∙◌}
-use mathlib.Core.Bool.{Bool, true, false, cond, ◌&&◌, ◌||◌}
+use mathlib.Core.Bool.{Bool, true, false, ◌&&◌, ◌||◌}
 use Rattle.std.specs.Prelude.{Option, Some, None}
-use mathlib.Core.List.{List, [], ◌∷◌, ◌++◌, append_assoc}
+use mathlib.Core.List.{List, [], ◌∷◌, ◌++◌}
 use Prim.Native.Nat.{ℕ, zero, suc, ◌+◌, ◌-◌, ◌<◌, ◌≤◌}
 use native.Mathlib.Omega.{arith}
-use lib.ListN.{length, length-append}
+use lib.ListN.{length}
 use lib.Dec.{eqb, ltb, leb}
-use borrow.Author.Tests.{ne_eqb, eqb-true, lt-ltb, ltb-true, ltb-false, leb-true, le-leb}
+use borrow.Author.Tests.{ne_eqb, eqb-true, ltb-true, ltb-false, leb-true}
 use Rattle.ascii.specs.Ascii.{is_word}
 use Rattle.ascii.specs.Text.{bytes, leading}
 use Rattle.ascii.proofs.Flags.{by_cases, and_left, and_right}
 use Rattle.bookform.specs.declared.Expect.{Expect}
 use Rattle.bookform.specs.declared.Expect.TheVariants.{HeaderByte, ClauseCount, DirectiveLength, DirectiveName, Rule, ClauseLength, ClauseName}
 use Rattle.bookform.specs.Format.{rule_for, is_known, is_header, is_length, clauses_left, directives_left, stepped, ended_at, bad_from, HasForm}
-use Rattle.bookform.specs.Grammar.{IsWord, IsWords, last, then, Clauses, clause, Entries, clauses, directive, IsBook, FormIsBook}
+use Rattle.bookform.specs.Grammar.{IsWords, last, then, Clauses, clause, Entries, clauses, directive, IsBook, FormIsBook}
 use Rattle.bookform.specs.Grammar as G
 use Rattle.bookform.proofs.Steps.{never, when-next}
+use Rattle.bookform.proofs.Composing.{book-fine}
 
 -- rule bytes
 known-low : (b : ℕ) → is_known (rule_for b) ≡ true → b < 4
@@ -28,111 +29,10 @@ known-low b h =
     rw (ne_eqb b 0 (omega arith), ne_eqb b 1 (omega arith), ne_eqb b 2 (omega arith), ne_eqb b 3 (omega arith)) at h in
     let y : ◌≡◌ {A = ℕ} 0 1 = cc in absurd (omega arith))
 
-low-known : (b : ℕ) → b < 4 → is_known (rule_for b) ≡ true
-low-known zero h = refl
-low-known (suc zero) h = refl
-low-known (suc (suc zero)) h = refl
-low-known (suc (suc (suc zero))) h = refl
-low-known (suc (suc (suc (suc b)))) h = absurd (omega arith)
-
 -- words
 word-cons : (x : ℕ) (w : List ℕ) → is_word x ≡ true → leading is_word w ≡ length w → leading is_word (x ∷ w) ≡ suc (length w)
 unfolding leading
 word-cons x w h e = rw (leading, h, e)
-
-word-head : (x : ℕ) (w : List ℕ) → leading is_word (x ∷ w) ≡ suc (length w) → (is_word x ≡ true) × (leading is_word w ≡ length w)
-unfolding leading
-word-head x w h = go (is_word x) refl h
-  where
-    go : (b : Bool) → is_word x ≡ b → cond b (suc (leading is_word w)) 0 ≡ suc (length w) → (is_word x ≡ true) × (leading is_word w ≡ length w)
-    go true q e = (q, omega arith)
-    go false q e = absurd (omega arith)
-
--- READING WHAT IS PUT TOGETHER
-
--- no fault from a state on, wherever it stands
-abbrev Fine : Expect → List ℕ → Type 0
-Fine e bs = (at : ℕ) → bad_from e at bs ≡ None
-
-module _ (c : ℕ) (rest : List ℕ) where
-  word-fine : (w : List ℕ) (n : ℕ) → length w ≡ suc n → leading is_word w ≡ length w → Fine (clauses_left c) rest → Fine (ClauseName n c) (w ++ rest)
-  unfolding bad_from
-  word-fine [] n l e f at = absurd (omega arith)
-  word-fine (x ∷ w) zero l e f at = go w (omega arith)
-    where
-      go : (w : List ℕ) → length w ≡ 0 → bad_from (ClauseName 0 c) at (x ∷ w ++ rest) ≡ None
-      go [] l = rw (bad_from, (word-head x _ e).0) (f (suc at))
-      go (y ∷ w) l = absurd (omega arith)
-  word-fine (x ∷ w) (suc n) l e f at =
-      let h = word-head x w e in
-      rw (bad_from, h.0) (word-fine w n (omega arith) h.1 f (suc at))
-
-clauses-fine : (c : ℕ) (bs : List ℕ) → Clauses c bs → Fine (clauses_left c) bs
-unfolding bad_from
-clauses-fine c bs G.none at = refl
-clauses-fine c bs (clause n rule name more l w k cs) at =
-    let q : suc (length name - 1) ≡ length name = omega (arith, w.long) in
-    rw (low-known rule l, bad_from, le-leb 1 (length name) w.long, le-leb (length name) 64 k)
-    (word-fine n more name (length name - 1) (sym q) w.all (λ at. clauses-fine n more cs at) (suc (suc at)))
-
-module _ (d c : ℕ) where
-  last-fine : (rest w : List ℕ) (n : ℕ) (b : Bool) → length w ≡ suc n → leading is_word w ≡ length w → Fine (directives_left d c) rest → Fine (DirectiveName n b d c) (w ++ rest)
-  unfolding bad_from
-  last-fine rest [] n b l e f at = absurd (omega arith)
-  last-fine rest (x ∷ w) zero b l e f at = go w (omega arith)
-    where
-      go : (w : List ℕ) → length w ≡ 0 → bad_from (DirectiveName 0 b d c) at (x ∷ w ++ rest) ≡ None
-      go [] l = rw (bad_from, (word-head x _ e).0) (f (suc at))
-      go (y ∷ w) l = absurd (omega arith)
-  last-fine rest (x ∷ w) (suc n) b l e f at =
-      let h = word-head x w e in
-      rw (bad_from, h.0) (last-fine rest w n true (omega arith) h.1 f (suc at))
-
-  -- a word that goes on to a tail
-  on_fine : (tail w : List ℕ) (m n : ℕ) → m ≡ length w + n → leading is_word w ≡ length w → Fine (DirectiveName n true d c) tail → Fine (DirectiveName m true d c) (w ++ tail)
-  unfolding bad_from
-  on_fine tail [] m n l e f at = let q : m ≡ n = omega arith in rw q (f at)
-  on_fine tail (x ∷ w) zero n l e f at = absurd (omega arith)
-  on_fine tail (x ∷ w) (suc m) n l e f at =
-      let h = word-head x w e in
-      rw (bad_from, h.0) (on_fine tail w m n (omega arith) h.1 f (suc at))
-
-  then-fine : (tail w : List ℕ) (m n : ℕ) (b : Bool) → m ≡ length w + n → IsWord w → Fine (DirectiveName n true d c) tail → Fine (DirectiveName m b d c) (w ++ tail)
-  unfolding bad_from
-  then-fine tail [] m n b l w f at = absurd (omega (arith, w.long))
-  then-fine tail (x ∷ v) zero n b l w f at = absurd (omega arith)
-  then-fine tail (x ∷ v) (suc m) n b l w f at =
-      let h = word-head x v w.all in
-      rw (bad_from, h.0) (on_fine tail v m n (omega arith) h.1 f (suc at))
-
-  words-some : (name : List ℕ) → IsWords name → 1 ≤ length name
-  words-some name (last w i) = i.long
-  words-some name (then w rest i is) = simp length-append (omega (arith, i.long))
-
-  words-fine : (rest name : List ℕ) (n : ℕ) (b : Bool) → IsWords name → length name ≡ suc n → Fine (directives_left d c) rest → Fine (DirectiveName n b d c) (name ++ rest)
-  unfolding bad_from
-  words-fine rest name n b (last w i) l f at = last-fine rest w n b l i.all f at
-  words-fine rest name n b (then w v i is) l f at =
-      let q : length v ≡ suc (length v - 1) = omega (arith, words-some v is) in
-      let g : Fine (DirectiveName (length v) true d c) (32 ∷ v ++ rest) =
-      λ at. rw (bad_from, q) (words-fine rest v (length v - 1) false is q f (suc at)) in
-      rw append_assoc (then-fine (32 ∷ v ++ rest) w n (length v) b (omega (arith, simp length-append at l)) i g at)
-
-entries-fine : (d c : ℕ) (bs : List ℕ) → Entries d c bs → Fine (directives_left d c) bs
-unfolding bad_from
-entries-fine d c bs (clauses c' bs' cs) at = clauses-fine c' bs' cs at
-entries-fine d c bs (directive d' c' name more w k es) at =
-    let o = words-some d' c' name w in
-    let q : length name ≡ suc (length name - 1) = omega arith in
-    rw (bad_from, le-leb 1 (length name) o, le-leb (length name) 64 k)
-    (words-fine d' c' more name (length name - 1) false w q (λ at. entries-fine d' c' more es at) (suc at))
-
-book-fine : (bs : List ℕ) → IsBook bs → HasForm bs
-unfolding bad_from
-book-fine bs b =
-    rw (b.is, bad_from, lt-ltb b.flags 4 b.low_flags, bad_from, low-known b.rule b.low_rule, bad_from, le-leb 1 b.d b.some_directive) (entries-fine b.d b.c b.entries b.follow 9)
-
--- TAKING APART WHAT IS READ
 
 -- the next byte, which leads on
 record Byte (e : Expect) (at : ℕ) (bs : List ℕ) : Type 0 where
@@ -162,6 +62,10 @@ record Bytes (P : List ℕ → Type 0) (e : Expect) (n : ℕ) (bs : List ℕ) : 
   at : ℕ
   fine : bad_from e at more ≡ None
 
+-- a byte more before them
+grown : {P Q : List ℕ → Type 0} {e : Expect} {n : ℕ} {bs more : List ℕ} (b : ℕ) → bs ≡ b ∷ more → (t : Bytes P e n more) → Q (b ∷ t.name) → Bytes Q e (suc n) bs
+grown b q t s = record { name = b ∷ t.name; more = t.more; is = q ∙ ap (λ l. b ∷ l) t.is; long = ap suc t.long; shaped = s; at = t.at; fine = t.fine }
+
 abbrev AllWord : List ℕ → Type 0
 AllWord w = leading is_word w ≡ length w
 
@@ -175,15 +79,7 @@ word_read (suc n) c at bs h =
     let r = byte (ClauseName (suc n) c) at bs refl h in
     let k = when-next (is_word r.b) _ _ r.leads in
     let t = word_read n c (suc at) r.more (rw k.1 at r.fine) in
-    record {
-      name = r.b ∷ t.name;
-      more = t.more;
-      is = r.is ∙ ap (λ l. r.b ∷ l) t.is;
-      long = ap suc t.long;
-      shaped = word-cons r.b t.name k.0 t.shaped;
-      at = t.at;
-      fine = t.fine;
-    }
+    grown r.b r.is t (word-cons r.b t.name k.0 t.shaped)
 
 length-bounds : (b : ℕ) → is_length b ≡ true → (1 ≤ b) × (b ≤ 64)
 length-bounds b h = (leb-true 1 b (and_left (leb 1 b) (leb b 64) h), leb-true b 64 (and_right (leb 1 b) (leb b 64) h))
@@ -245,15 +141,7 @@ words-read (suc n) w d c at bs h =
     let r = byte (DirectiveName (suc n) w d c) at bs refl h in
     let k = when-next (is_word r.b || eqb r.b 32 && w) _ _ r.leads in
     let t = words-read n (is_word r.b) d c (suc at) r.more (rw k.1 at r.fine) in
-    record {
-      name = r.b ∷ t.name;
-      more = t.more;
-      is = r.is ∙ ap (λ l. r.b ∷ l) t.is;
-      long = ap suc t.long;
-      shaped = shape-step (is_word r.b) w r.b t.name refl k.0 t.shaped;
-      at = t.at;
-      fine = t.fine;
-    }
+    grown r.b r.is t (shape-step (is_word r.b) w r.b t.name refl k.0 t.shaped)
 
 entries-read : (d c at : ℕ) (bs : List ℕ) → bad_from (directives_left d c) at bs ≡ None → Entries d c bs
 unfolding Shape

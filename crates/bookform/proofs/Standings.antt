@@ -13,6 +13,7 @@ use Rattle.std.specs.Prelude.{Some}
 use Rattle.std.proofs.lemmas.List.{get_or-take, get_or-drop, length-take-le}
 use Rattle.ascii.specs.Ascii.{is_word, is_digit, is_letter}
 use Rattle.ascii.proofs.Flags.{by_cases, and_left, and_right}
+use Rattle.bookform.specs.declared.EntryKind.TheVariants.{Directive, Clause}
 use Rattle.bookform.specs.declared.Expect.{Expect}
 use Rattle.bookform.specs.declared.Expect.TheVariants.{DirectiveLength, DirectiveName, Rule, ClauseLength, ClauseName}
 use Rattle.bookform.specs.Format.{stepped, rule_for, is_known, clauses_left, directives_left, bad_from}
@@ -90,14 +91,14 @@ word_of w b h = go (is_digit b || is_letter b) (eqb b 95) w h
     go false false f h = h
 
 -- Names of both kinds. A state of its own is waited for at each byte, by how many come after it and whether the one before is of a word.
-record Reads (between : ℕ) (state : ℕ → Bool → Expect) (behind : Expect) : Type 0 where
-  goes : (k : ℕ) (w : Bool) (b : ℕ) → (is_word b || eqb b between && w) ≡ true → stepped (state (suc k) w) b ≡ Some (state k (is_word b))
-  ends : (w : Bool) (b : ℕ) → is_word b ≡ true → stepped (state zero w) b ≡ Some behind
+pub record Reads (between : ℕ) (state : ℕ → Bool → Expect) (behind : Expect) : Type 0 where
+  pub goes : (k : ℕ) (w : Bool) (b : ℕ) → (is_word b || eqb b between && w) ≡ true → stepped (state (suc k) w) b ≡ Some (state k (is_word b))
+  pub ends : (w : Bool) (b : ℕ) → is_word b ≡ true → stepped (state zero w) b ≡ Some behind
 
-directive-reads : (d c : ℕ) → Reads 32 (λ k w. DirectiveName k w d c) (directives_left d c)
+pub directive-reads : (d c : ℕ) → Reads 32 (λ k w. DirectiveName k w d c) (directives_left d c)
 directive-reads d c = record { goes = λ k w b t. rw t; ends = λ w b t. rw t }
 
-clause-reads : (c : ℕ) → Reads 95 (λ k w. ClauseName k c) (clauses_left c)
+pub clause-reads : (c : ℕ) → Reads 95 (λ k w. ClauseName k c) (clauses_left c)
 clause-reads c = record { goes = λ k w b t. rw (word_of w b t); ends = λ w b t. rw t }
 
 -- a name as it stands in the book
@@ -149,7 +150,7 @@ module _ (bs : List ℕ) (between : ℕ) (state : ℕ → Bool → Expect) (behi
 
 module _ (bs : List ℕ) where
   -- an entry is passed
-  pub directive-passed : (at end : ℕ) → NameEnds 32 at end bs → Passed 0 at end bs
+  pub directive-passed : (at end : ℕ) → NameEnds 32 at end bs → Passed Directive at end bs
   directive-passed at end h =
       let e = h.ends in
       let b = at_least (get_or bs at 0) h.sized in
@@ -160,7 +161,7 @@ module _ (bs : List ℕ) where
             ∙ whole bs 32 (λ k w. DirectiveName k w n c) (directives_left n c) (directive-reads n c) (get_or bs at 0 - 1) (at + 1) end (omega arith) l (name-at 32 bs (at + 1) end (omega arith) l h.name);
       }
 
-  pub clause-passed : (at end : ℕ) → is_known (rule_for (get_or bs at 0)) ≡ true → NameEnds 95 (at + 1) end bs → Passed 1 at end bs
+  pub clause-passed : (at end : ℕ) → is_known (rule_for (get_or bs at 0)) ≡ true → NameEnds 95 (at + 1) end bs → Passed Clause at end bs
   clause-passed at end k h =
       let e = h.ends in
       let b = at_least (get_or bs (at + 1) 0) h.sized in

@@ -6,8 +6,16 @@ use Rattle.ascii.specs.Text.{bytes}
 use Rattle.bookform.specs.declared.ClauseRule.{ClauseRule}
 use Rattle.bookform.specs.declared.ClauseRule.TheVariants.{Bare, Parenthesized, Flexible, Unsupported}
 use Rattle.bookform.specs.declared.UnknownRule.{UnknownRule}
+use Rattle.bookform.specs.declared.EntryKind.{EntryKind}
+use Rattle.bookform.specs.declared.EntryKind.TheVariants.{Directive, Clause}
 use Rattle.bookform.specs.declared.Expect.{Expect}
 use Rattle.bookform.specs.declared.Expect.TheVariants.{HeaderByte, ClauseCount, DirectiveLength, DirectiveName, Rule, ClauseLength, ClauseName, End}
+
+-- what comes before an entry's length byte: nothing in a directive entry ("a length byte 1 to 64 and the name"), one byte in a clause entry ("rule byte,
+-- length byte 1 to 64, name")
+abbrev pub lead_of : EntryKind → ℕ
+lead_of Directive = 0
+lead_of Clause = 1
 
 -- "0 Bare, 1 Parenthesized, 2 Flexible, 3 Unsupported"; no other rule byte is known
 abbrev pub rule_for : ℕ → Option ClauseRule

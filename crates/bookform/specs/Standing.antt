@@ -1,6 +1,8 @@
 -- Entries whose form is right, as they are passed at once: what the quick steps of the check tell. What the form is, Format says.
-use Rattle.std.specs.Prelude.{ℕ, zero, suc, ◌+◌, ◌-◌, ◌<◌, ◌≤◌, Bool, true, not, ◌&&◌, ◌||◌, ◌≡◌, List, length, take, drop, get_or, eqb}
+use Rattle.std.specs.Prelude.{ℕ, suc, ◌+◌, ◌-◌, ◌<◌, ◌≤◌, Bool, true, not, ◌&&◌, ◌||◌, ◌≡◌, List, length, take, drop, get_or, eqb}
 use Rattle.ascii.specs.Ascii.{is_word}
+use Rattle.bookform.specs.declared.EntryKind.{EntryKind}
+use Rattle.bookform.specs.declared.EntryKind.TheVariants.{Directive, Clause}
 use Rattle.bookform.specs.declared.Expect.{Expect}
 use Rattle.bookform.specs.Format.{is_length, clauses_left, directives_left, bad_from}
 
@@ -34,11 +36,11 @@ pub record NameEnds (between place end : ℕ) (bs : List ℕ) : Type 0 where
   pub name : IsName between (take (end - (place + 1)) (drop (place + 1) bs))
 
 -- what is waited for where n entries of a kind are to come, directives with c clauses behind them, or clauses
-abbrev pub waits : ℕ → ℕ → ℕ → Expect
-waits zero n c = directives_left n c
-waits (suc lead) n c = clauses_left n
+abbrev pub waits : EntryKind → ℕ → ℕ → Expect
+waits Directive n c = directives_left n c
+waits Clause n c = clauses_left n
 
 -- an entry from a place up to another is passed: the first bad byte is that of what comes behind
-pub record Passed (lead at end : ℕ) (bs : List ℕ) : Type 0 where
+pub record Passed (kind : EntryKind) (at end : ℕ) (bs : List ℕ) : Type 0 where
   pub within : end ≤ length bs
-  pub same : (n c : ℕ) → bad_from (waits lead (suc n) c) at (drop at bs) ≡ bad_from (waits lead n c) end (drop end bs)
+  pub same : (n c : ℕ) → bad_from (waits kind (suc n) c) at (drop at bs) ≡ bad_from (waits kind n c) end (drop end bs)

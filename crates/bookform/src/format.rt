@@ -95,7 +95,7 @@ fn name_step(n: usize, after_word: bool, d: usize, c: usize, b: u8) -> Option<Ex
     if n == 0 {
         return word.then_some(directives_left(d, c));
     }
-    (word | (b == 32) & after_word).then_some(Expect::DirectiveName(n - 1, word, d, c))
+    (word | (b == b' ') & after_word).then_some(Expect::DirectiveName(n - 1, word, d, c))
 }
 
 fn word_step(n: usize, c: usize, b: u8) -> Option<Expect>

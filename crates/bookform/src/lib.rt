@@ -4,6 +4,9 @@
 pub mod format;
 mod passing;
 
+ghost use Rattle.std.specs.Prelude.{◌≡◌};
+ghost use Rattle.bookform.specs.Format.{lead_of};
+
 // What a clause may look like.
 #[derive(Clone, Copy, Debug, PartialEq, Eq)]
 pub enum ClauseRule {
@@ -22,6 +25,7 @@ pub enum ClauseRule {
 pub struct UnknownRule(pub u8);
 
 // What a reader of a book waits for. Counts of entries are of those that come after the one being read.
+// Directives and clauses are two numbers and no struct: they are the definition's own arguments (`directives_left d c`), and each state keeps what is left of them.
 #[derive(Clone, Copy, Debug, PartialEq, Eq)]
 pub enum Expect {
     // a byte of the header, 0 to 7
@@ -48,11 +52,31 @@ pub struct Waiting {
     pub expect: Expect,
 }
 
-// Where entries of one kind stand: as many bytes as lead come before an entry's length byte (none in a directive entry, the rule byte
-// in a clause entry), the place of the first entry, and how many there are.
+// The kinds of a book's entries.
+#[derive(Clone, Copy, Debug, PartialEq, Eq)]
+pub enum EntryKind {
+    // a length byte and a name
+    Directive,
+    // a rule byte, and a length byte and a name behind it
+    Clause,
+}
+
+// Where entries of one kind stand: the place of the first one, and how many there are.
 #[derive(Clone, Copy, Debug, PartialEq, Eq)]
 pub struct Entries {
-    pub lead: usize,
+    pub kind: EntryKind,
     pub first: usize,
     pub count: usize,
+}
+
+impl EntryKind {
+    // How many bytes come before the length byte of an entry.
+    pub fn lead(self) -> usize
+        ensures { result ≡ lead_of self }
+    {
+        match self {
+            EntryKind::Directive => 0,
+            EntryKind::Clause => 1,
+        }
+    }
 }

@@ -5,14 +5,14 @@ ghost use Rattle.bookform.specs.Format.{directives_left, bad_from};
 ghost use Rattle.bookform.specs.Standing.{is_of_name, stands_behind, Standing, IsName, NameEnds, Passed, waits};
 
 use crate::format::{clauses_left, directives_left, is_header, is_length, is_rule};
-use crate::{Entries, Expect, Waiting};
+use crate::{Entries, EntryKind, Expect, Waiting};
 use ascii::class::{is_letter, is_word};
 
-// A byte of a word, asked without a branch: so the compiler asks it of eight at once.
+// A byte of a word, asked without a branch: so the compiler asks it of eight at once. For this speed it stands beside `ascii::class::is_word`, which branches.
 fn is_of_word(b: u8) -> bool
     ensures { result ≡ is_word b }
 {
-    ((48 <= b) & (b <= 57)) | is_letter(b) | (b == 95)
+    ((b'0' <= b) & (b <= b'9')) | is_letter(b) | (b == b'_')
 }
 
 // Whether a byte may stand behind another that stands in a name: it is of a word, or it is the one between words and the other is not.
@@ -52,26 +52,31 @@ fn eights_stand(name: &[u8], between: u8) -> bool
     ensures { result ≡ true → Standing between name.now 1 (length name.now) }
 {
     let last = name.len() - 8;
-    let mut i = 1;
     // by eights; the last eight may overlap those before
-    while i < name.len() {
+    for i in (1..name.len()).step_by(8) {
         let at = i.min(last);
         if !eight_stand(name, at, between) {
             return false;
         }
-        i = at + 8;
     }
     true
 }
 
-// The same byte by byte.
+// As `stands_behind`, but by branches, beside it for speed where one byte is asked: most bytes are letters, and the first comparison tells those.
+fn one_stands(before: u8, b: u8, between: u8) -> bool
+    ensures { result ≡ stands_behind between before b }
+{
+    is_word(b) || (b == between && before != between)
+}
+
+// As `eights_stand`, but byte by byte and by branches, beside it for speed: a short name has no eight bytes to ask at once.
 fn each_stands(name: &[u8], between: u8) -> bool
     requires { (1 ≤ length name.now) × (is_word (get_or name.now 0 0) ≡ true) }
     ensures { result ≡ true → Standing between name.now 1 (length name.now) }
 {
     let mut before = name[0];
     for b in &name[1..] {
-        if !stands_behind(before, *b, between) {
+        if !one_stands(before, *b, between) {
             return false;
         }
         before = *b;
@@ -79,8 +84,7 @@ fn each_stands(name: &[u8], between: u8) -> bool
     true
 }
 
-// The same, however many there are. No struct holds what this and the two above require of a name: they are one function, told in three for the
-// length of a name.
+// As `eights_stand` and `each_stands`, for a name of any length. No struct holds what the three require of a name: they are one function, in three for speed.
 fn all_stand(name: &[u8], between: u8) -> bool
     requires { (1 ≤ length name.now) × (is_word (get_or name.now 0 0) ≡ true) }
     ensures { result ≡ true → Standing between name.now 1 (length name.now) }
@@ -96,7 +100,7 @@ fn is_name(text: &[u8], between: u8) -> bool
     requires { 1 ≤ length text.now }
     ensures { result ≡ true → IsName between text.now }
 {
-    is_word(text[0]) && is_word(text[text.len() - 1]) && all_stand(text, between)
+    is_word(text[0]) && all_stand(text, between) && is_word(text[text.len() - 1])
 }
 
 // The end of the name behind the length byte at a place, if both are right.
@@ -115,43 +119,48 @@ fn name_end(book: &[u8], place: usize, between: u8) -> Option<usize>
     None
 }
 
-// The end of the entry at a place, a directive's if no byte leads, if its form is right. Between a directive's words stands a blank; a clause's name is one
-// word, and `_` between its parts is of the word.
-fn entry_end(book: &[u8], lead: usize, at: usize) -> Option<usize>
-    requires { lead ≤ 1 }
-    ensures { IfSome result (λ end. Passed lead at end book.now) }
+// The end of the entry at a place, if its form is right. Between a directive's words stands a blank; a clause's name is one word, and `_` between its parts
+// is of the word.
+fn entry_end(book: &[u8], kind: EntryKind, at: usize) -> Option<usize>
+    ensures { IfSome result (λ end. Passed kind at end book.now) }
 {
-    if lead == 0 {
-        return name_end(book, at, 32);
+    match kind {
+        EntryKind::Directive => name_end(book, at, b' '),
+        EntryKind::Clause => {
+            if !is_rule(*book.get(at)?) {
+                return None;
+            }
+            name_end(book, at + 1, b'_')
+        }
     }
-    if is_rule(*book.get(at)?) {
-        return name_end(book, at + 1, 95);
-    }
-    None
 }
 
 // What is left of the entries from the first on whose form is not right.
 fn entries_left(book: &[u8], entries: Entries) -> Entries
-    requires { (entries.lead ≤ 1) × (entries.first ≤ length book.now) }
-    ensures lead_value { (result.lead ≡ entries.lead) × (result.first ≤ length book.now) }
-    ensures book_value { (c : _) → bad_from (waits entries.lead result.count c) result.first (drop result.first book.now)
-        ≡ bad_from (waits entries.lead entries.count c) entries.first (drop entries.first book.now) }
+    requires { entries.first ≤ length book.now }
+    ensures kind_value { (result.kind ≡ entries.kind) × (result.first ≤ length book.now) }
+    ensures book_value { (c : _) → bad_from (waits entries.kind result.count c) result.first (drop result.first book.now)
+        ≡ bad_from (waits entries.kind entries.count c) entries.first (drop entries.first book.now) }
 {
-    let mut left = entries;
-    // by entries
-    while 0 < left.count {
-        match entry_end(book, left.lead, left.first) {
-            Some(end) => {
-                left.first = end;
-                left.count -= 1;
-            }
-            None => return left,
-        }
+    let mut first = entries.first;
+    for done in 0..entries.count {
+        let Some(end) = entry_end(book, entries.kind, first) else {
+            return Entries {
+                first,
+                count: entries.count - done,
+                ..entries
+            };
+        };
+        first = end;
     }
-    left
+    Entries {
+        first,
+        count: 0,
+        ..entries
+    }
 }
 
-// Whether a book has its whole header.
+// Whether a book has its whole header. By `for` and no `all`: each byte is asked by another rule, so the closure would hold the book and its length as facts.
 fn has_header(book: &[u8]) -> bool
     ensures { result ≡ true → (9 ≤ length book.now)
         × (bad_from (directives_left (get_or book.now 7 0) (get_or book.now 8 0)) 9 (drop 9 book.now) ≡ bad_from (Expect.HeaderByte 0) 0 book.now) }
@@ -182,7 +191,7 @@ pub fn past_entries(book: &[u8]) -> Waiting
     let directives = entries_left(
         book,
         Entries {
-            lead: 0,
+            kind: EntryKind::Directive,
             first: 9,
             count: usize::from(book[7]),
         },
@@ -196,7 +205,7 @@ pub fn past_entries(book: &[u8]) -> Waiting
     let clauses = entries_left(
         book,
         Entries {
-            lead: 1,
+            kind: EntryKind::Clause,
             first: directives.first,
             count: c,
         },

@@ -2,7 +2,7 @@
 -- By cases of how far the sequence has come. Assumes nothing.
 use Prim.Native.Nat.{ℕ, zero, suc, ◌+◌, ◌-◌, ◌<◌}
 use mathlib.Core.Bool.{true≢false, false}
-use mathlib.Core.Path.{◌≡◌, refl, sym, ap, subst, ◌∙◌}
+use mathlib.Core.Path.{◌≡◌, refl, sym, ap, ◌∙◌}
 use mathlib.Core.List.{List}
 use native.Mathlib.Omega.{arith}
 use Rattle.std.specs.Prelude.{Result}
@@ -13,8 +13,7 @@ use Rattle.clause.specs.declared.SequenceState.{SequenceState}
 use Rattle.clause.specs.declared.SequenceEnd.{SequenceEnd}
 use Rattle.clause.specs.declared.Progress.{Progress}
 use Rattle.clause.specs.Calls.{SequenceCall, counted}
-use Rattle.clause.specs.Steps.{Proper, Started, onward, is_going, next_state, state_at, records_from, answer_by, answer_of, read_on}
-use Rattle.clause.proofs.Properness.{proper-at}
+use Rattle.clause.specs.Steps.{Started, onward, is_going, next_state, state_at, records_from, answer_by, answer_of, read_on}
 use Rattle.clause.proofs.Sequencing.{left_by, settles}
 
 abbrev Answers : Result SequenceEnd Refusal → SequenceState → Type 0
@@ -43,9 +42,6 @@ stays_all bk t s j (suc k) (suc n) d e =
     (m.0 ∙ l.0, m.1)
 
 module _ (bk t : List ℕ) (s₀ : SequenceState) (n : ℕ) (started : Started bk t n s₀) where
-  pub proper-step : (s : SequenceState) (i : ℕ) → s ≡ state_at bk t s₀ i → Proper bk t s
-  proper-step s i e = subst (Proper bk t) (sym e) (proper-at bk t s₀ started.proper i)
-
   pub counts : (r : Result SequenceEnd Refusal) → r ≡ answer_of (next_state bk t (state_at bk t s₀ n)) → told r ≡ and_then (read_on bk t s₀) (λ s. given (counted s))
   counts r e =
       let zs = records_from bk t s₀ 0 n in

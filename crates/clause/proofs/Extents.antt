@@ -28,7 +28,7 @@ use Rattle.lexer.proofs.Bounds.{skip-bounds}
 use Rattle.bookform.specs.declared.ClauseRule.{ClauseRule}
 use Rattle.bookform.specs.declared.ClauseRule.TheVariants.{Bare, Parenthesized, Flexible, Unsupported}
 use Rattle.rulebook.specs.Book.{Book}
-use Rattle.rulebook.specs.Lookup.{index_or, rule_or}
+use Rattle.rulebook.specs.Lookup.{rule_or}
 use Rattle.clause.specs.declared.Separation.{Separation}
 use Rattle.clause.specs.Clause.{Read, failed, style, closing, argument, word_length, found, clause_at}
 use Rattle.clause.specs.Sequence.{after_comma, at_comma, separated}
@@ -112,7 +112,7 @@ ends-cond : (at n : ℕ) (t : Bool) (x y : Read) → (t ≡ true → EndsWithin 
 ends-cond at n true x y h k = h refl
 ends-cond at n false x y h k = k refl
 
-module _ (f : Bool) (text : List ℕ) (at end i : ℕ) (a : at < end) (z : end ≤ length text) where
+module _ (f : Bool) (text : List ℕ) (at end : ℕ) (i : Option ℕ) (a : at < end) (z : end ≤ length text) where
   closing-ends : (p : ℕ) (m : Match) → end ≤ p → Closes (suc p) (length text) m → EndsWithin at (length text) (closing f text at end i p m)
   closing-ends p (Ok q) l h = (omega arith, omega arith)
   closing-ends p (Err Unmatched) l h = tt
@@ -142,7 +142,7 @@ clause-ends book text at h =
     let l : w ≤ length text - at = rw length-drop at (leading_le is_word (drop at text)) in
     ends-cond at (length text) (eqb w 0) (failed Reason.NoClause at) _ (λ t. tt)
     (λ t. let more = eqb-false w 0 t in
-    argument-ends book.ignores_case text at (at + w) (index_or (found book text at)) (omega arith) (omega arith) (rule_or book.default (found book text at) book.clauses) (skip book.ignores_case text (at + w)) refl)
+    argument-ends book.ignores_case text at (at + w) (found book text at) (omega arith) (omega arith) (rule_or book.default (found book text at) book.clauses) (skip book.ignores_case text (at + w)) refl)
 
 -- what follows a clause does not begin before its end, and is within n bytes
 abbrev pub Follows : ℕ → ℕ → Result Separation Refusal → Type 0

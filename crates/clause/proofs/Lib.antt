@@ -6,6 +6,7 @@ pub mod Stopping
 pub mod Properness
 pub mod Sequencing
 pub mod Starting
+pub mod Few
 pub mod Counting
 pub mod Extents
 pub mod Cleanness

@@ -16,13 +16,14 @@ use Rattle.lexer.proofs.Bounds.{skip-bounds}
 use Rattle.rulebook.specs.Book.{book_of}
 use Rattle.rulebook.specs.Check.{book_fault}
 use Rattle.rulebook.specs.declared.CheckedBook.{CheckedBook}
+use Rattle.rulebook.specs.Judged.{Judged}
 use Rattle.clause.specs.declared.ClauseRecord.{ClauseRecord}
 use Rattle.clause.specs.declared.SequenceEnd.{SequenceEnd}
 use Rattle.clause.specs.Clause.{zero_record}
 use Rattle.clause.specs.Sequence.{Sequence, sequence_at}
-use Rattle.clause.specs.Calls.{SequenceCall, counted, sequence_call, Admits, Judged}
+use Rattle.clause.specs.Calls.{SequenceCall, counted, sequence_call, Admits}
 use Rattle.clause.proofs.Cleanness.{clean_end}
-use Rattle.clause.specs.Steps.{Started, begun_at, start_at, read_on, settled, sequence_into}
+use Rattle.clause.specs.Steps.{Started, begun_at, start_at, read_on, settled}
 
 module _ (bk t : List ℕ) (left at : ℕ) where
   -- a start behind trivia
@@ -35,12 +36,6 @@ module _ (bk t : List ℕ) (left at : ℕ) where
   pub started-at : length t ≤ max_length → at ≤ length t → Started bk t left (start_at bk t left at)
   unfolding start_at
   started-at l h = begun-started (skip (book_of bk).ignores_case t at) l h refl
-
-  -- more slots than are used
-  pub started-more : (size : ℕ) → length t ≤ max_length → at ≤ length t → left ≤ size → Started bk t size (start_at bk t left at)
-  started-more size l h more =
-      let s = started-at l h in
-      record { proper = s.proper; room = omega (arith, s.room); none_yet = s.none_yet }
 
   -- what is read from there
   begun-reads : (k : Result ℕ Refusal) → skip (book_of bk).ignores_case t at ≡ k → read_on bk t (begun_at t left k) ≡ sequence_at (book_of bk) t left at
@@ -62,27 +57,22 @@ checked-admits bk t (Ok b) v h = (h, v)
 checked-admits bk t (Err r) v h = λ a. wrong-book bk t r a v h.0 h.1
 
 -- what is read behind them is what the call gives
-module _ (bk t : List ℕ) (left size : ℕ) where
-  pub into-is : text_verdict t ≡ fine → book_fault bk ≡ None → settled size (read_on bk t (start_at bk t left 0)) ≡ sequence_into bk t left size
-  unfolding sequence_into
-  into-is e v = rw (admits-fine t _ e, v) (ap (settled size) (reads_at bk t left 0))
+module _ (bk t : List ℕ) (size : ℕ) where
+  pub call-is : text_verdict t ≡ fine → book_fault bk ≡ None → settled size (read_on bk t (start_at bk t size 0)) ≡ sequence_call bk t size
+  unfolding sequence_call
+  call-is e v = rw (admits-fine t _ e, v) (ap (settled size) (reads_at bk t size 0))
 
   pub refused-is : (r : Refusal) (us : List ClauseRecord) → ((a : Answer Sequence) → admitted t (unless_fault 4 (book_fault bk) a) ≡ refused_by r) → us ≡ replicate size zero_record
-      → ◌≡◌ {A = SequenceCall} (record { answer = refused_by r; records = us }) (sequence_into bk t left size)
-  unfolding sequence_into
+      → ◌≡◌ {A = SequenceCall} (record { answer = refused_by r; records = us }) (sequence_call bk t size)
+  unfolding sequence_call
   refused-is r us h e =
       let z : size - 0 ≡ size = omega arith in
-      rw (h (sequence_at (book_of bk) t left 0), z, e) refl
-
--- a call in which every slot is used
-pub call-is : (bk t : List ℕ) (size : ℕ) → sequence_into bk t size size ≡ sequence_call bk t size
-unfolding sequence_into sequence_call
-call-is bk t size = refl
+      rw (h (sequence_at (book_of bk) t size 0), z, e) refl
 
 -- its answer alone
 module _ (bk t : List ℕ) (size : ℕ) where
   pub answer-read : text_verdict t ≡ fine → book_fault bk ≡ None → and_then (read_on bk t (start_at bk t size 0)) (λ s. given (counted s)) ≡ (sequence_call bk t size).answer
-  answer-read e v = ap (λ (c : SequenceCall). c.answer) (into-is bk t size size e v ∙ call-is bk t size)
+  answer-read e v = ap (λ (c : SequenceCall). c.answer) (call-is bk t size e v)
 
   pub answer-refused : (r : Refusal) → text_verdict t ≡ Err r → ◌≡◌ {A = Answer SequenceEnd} (refused_by r) (sequence_call bk t size).answer
   unfolding sequence_call

@@ -19,23 +19,23 @@ use Rattle.lexer.specs.Trivia.{skip}
 use Rattle.bookform.specs.declared.ClauseRule.{ClauseRule}
 use Rattle.bookform.specs.declared.ClauseRule.TheVariants.{Bare, Parenthesized, Flexible, Unsupported}
 use Rattle.rulebook.specs.Book.{Book}
-use Rattle.rulebook.specs.Lookup.{index_or, rule_at, rule_or}
+use Rattle.rulebook.specs.Lookup.{rule_at, rule_or}
 use Rattle.clause.specs.declared.ClauseRead.{ClauseRead}
 use Rattle.clause.specs.declared.ClauseError.TheVariants.{Failed, Deep}
 use Rattle.clause.specs.declared.Separation.{Separation}
-use Rattle.clause.specs.Clause.{Read, failed, style, closing, argument, word_length, found, clause_at}
+use Rattle.clause.specs.Clause.{index_or, Read, failed, style, closing, argument, word_length, found, clause_at}
 use Rattle.clause.specs.Sequence.{separated, Sequence, flagged, sequence_from}
 
 -- what is read has entry i
-abbrev HasEntry : ℕ → Read → Type 0
-HasEntry i (Ok c) = c.clause.entry ≡ i
+abbrev HasEntry : Option ℕ → Read → Type 0
+HasEntry i (Ok c) = c.clause.entry ≡ index_or i
 HasEntry i (Err e) = Unit {0}
 
-cond-entry : (i : ℕ) (t : Bool) (x y : Read) → HasEntry i x → HasEntry i y → HasEntry i (cond t x y)
+cond-entry : (i : Option ℕ) (t : Bool) (x y : Read) → HasEntry i x → HasEntry i y → HasEntry i (cond t x y)
 cond-entry i true x y h k = h
 cond-entry i false x y h k = k
 
-module _ (f : Bool) (text : List ℕ) (start end i : ℕ) where
+module _ (f : Bool) (text : List ℕ) (start end : ℕ) (i : Option ℕ) where
   closing-entry : (p : ℕ) (m : Match) → HasEntry i (closing f text start end i p m)
   closing-entry p (Ok q) = refl
   closing-entry p (Err Unmatched) = tt
@@ -59,13 +59,13 @@ clause-found book text at c strict h = go (eqb (word_length book text at) 0) (fo
   where
     go : (b : Bool) (o : Option ℕ) → found book text at ≡ o
         → cond b (failed Reason.NoClause at)
-        (argument book.ignores_case text at (at + word_length book text at) (index_or o) (rule_or Unsupported o book.clauses) (skip book.ignores_case text (at + word_length book text at)))
+        (argument book.ignores_case text at (at + word_length book text at) o (rule_or Unsupported o book.clauses) (skip book.ignores_case text (at + word_length book text at)))
         ≡ Ok c
         → (i : ℕ) × (found book text at ≡ Some i) × (c.clause.entry ≡ i)
     go true o e h = absurd (cc)
     go false None e h = absurd (cc)
     go false (Some i) e h =
-        (i, e, rw h at (argument-entry book.ignores_case text at (at + word_length book text at) i (rule_at Unsupported i book.clauses) (skip book.ignores_case text (at + word_length book text at))))
+        (i, e, rw h at (argument-entry book.ignores_case text at (at + word_length book text at) (Some i) (rule_at Unsupported i book.clauses) (skip book.ignores_case text (at + word_length book text at))))
 
 -- A turn of the sequence: a clause is read, there is a slot for it, and what follows it is no open comment.
 pub record Turn (book : Book) (text : List ℕ) (room : ℕ) (comma : Bool) (at : ℕ) (xs : List ℕ) (s : Sequence) : Type 0 where

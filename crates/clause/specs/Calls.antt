@@ -1,10 +1,9 @@
 -- What the clause sequence call gives: the number of records and the rest, and every record slot as the call leaves it.
-use Rattle.std.specs.Prelude.{ℕ, ◌≡◌, List, length, Some, Result, Ok, Err, MatchResult}
+use Rattle.std.specs.Prelude.{ℕ, ◌≡◌, List, length, Result, Ok, Err}
 use Rattle.ascii.specs.Text.{first_high}
-use Rattle.refusal.specs.declared.Reason.TheVariants.{WrongBook}
 use Rattle.refusal.specs.declared.Refusal.{Refusal}
 use Rattle.refusal.specs.Answer.{Answer, given, refused_by, and_then, unless_fault, admitted, slots}
-use Rattle.refusal.specs.Verdict.{refusal_at, text_verdict, fine}
+use Rattle.refusal.specs.Verdict.{text_verdict, fine}
 use Rattle.rulebook.specs.Book.{book_of}
 use Rattle.rulebook.specs.Check.{book_fault}
 use Rattle.rulebook.specs.declared.CheckedBook.{CheckedBook}
@@ -31,7 +30,3 @@ sequence_call book text size =
 abbrev pub Admits : List ℕ → List ℕ → Result CheckedBook Refusal → Type 0
 Admits book text (Ok b) = (b.bytes.now ≡ book) × (text_verdict text ≡ fine)
 Admits book text (Err r) = (a : Answer Sequence) → admitted text (unless_fault 4 (book_fault book) a) ≡ refused_by r
-
--- a book as its check leaves it: valid, or refused by row 4
-abbrev pub Judged : List ℕ → Result CheckedBook Refusal → Type 0
-Judged book result = MatchResult result (λ b. b.bytes.now ≡ book) (λ r. (r ≡ refusal_at WrongBook r.place) × (book_fault book ≡ Some r.place))

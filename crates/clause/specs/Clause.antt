@@ -16,7 +16,7 @@ use Rattle.lexer.specs.Trivia.{skip}
 use Rattle.bookform.specs.declared.ClauseRule.{ClauseRule}
 use Rattle.bookform.specs.declared.ClauseRule.TheVariants.{Bare, Parenthesized, Flexible, Unsupported}
 use Rattle.rulebook.specs.Book.{Book}
-use Rattle.rulebook.specs.Lookup.{comparison, entry_from, index_or, rule_at, rule_or}
+use Rattle.rulebook.specs.Lookup.{comparison, entry_from, rule_at, rule_or}
 use Rattle.clause.specs.declared.ClauseRecord.{ClauseRecord}
 use Rattle.clause.specs.declared.ClauseRead.{ClauseRead}
 use Rattle.clause.specs.declared.ClauseError.{ClauseError}
@@ -41,18 +41,27 @@ zero_record = record {
   trailing = false;
 }
 
+-- "rule entry (65,535 if none)"
+abbrev pub no_entry : ℕ
+no_entry = 65535
+
+-- an entry as a record has it
+abbrev pub index_or : Option ℕ → ℕ
+index_or None = no_entry
+index_or (Some i) = i
+
 -- a word's record: alone, "content start and end (0 0 if bare)", or with the content of its argument
-abbrev pub word_record : ℕ → ℕ → ℕ → Option Range → ClauseRecord
+abbrev pub word_record : ℕ → ℕ → Option ℕ → Option Range → ClauseRecord
 word_record start end i None =
-    record { name_start = start; name_end = end; entry = i; parenthesized = false; content_start = 0; content_end = 0; preceded = false; trailing = false }
+    record { name_start = start; name_end = end; entry = index_or i; parenthesized = false; content_start = 0; content_end = 0; preceded = false; trailing = false }
 word_record start end i (Some content) =
-    record { name_start = start; name_end = end; entry = i; parenthesized = true; content_start = content.start; content_end = content.end; preceded = false; trailing = false }
+    record { name_start = start; name_end = end; entry = index_or i; parenthesized = true; content_start = content.start; content_end = content.end; preceded = false; trailing = false }
 
 -- a word alone
-abbrev pub bare_clause : ℕ → ℕ → ℕ → Read
+abbrev pub bare_clause : ℕ → ℕ → Option ℕ → Read
 bare_clause start end i = Ok (record { clause = word_record start end i None; end = end })
 
-abbrev pub paren_clause : ℕ → ℕ → ℕ → Range → ℕ → Read
+abbrev pub paren_clause : ℕ → ℕ → Option ℕ → Range → ℕ → Read
 paren_clause start end i content after = Ok (record { clause = word_record start end i (Some content); end = after })
 
 -- the comments that matching passes over: "bit 0 ignore case and use Fortran trivia"
@@ -63,14 +72,14 @@ style fortran = cond fortran Fortran CLike
 module _ (fortran : Bool) (text : List ℕ) where
   -- the parenthesis that opens at p: "Content is the trimmed range between the parentheses; blank content starts and ends just after `(`".
   -- Row 12, "`(` finds no match", at it; row 13 at the 257th bracket
-  abbrev pub closing : ℕ → ℕ → ℕ → ℕ → Result ℕ NoMatch → Read
+  abbrev pub closing : ℕ → ℕ → Option ℕ → ℕ → Result ℕ NoMatch → Read
   closing start end i p (Ok q) = paren_clause start end i (trimmed (suc p) (take (q - suc p) (drop (suc p) text))) (suc q)
   closing start end i p (Err NoMatch.Unmatched) = failed Reason.Unmatched p
   closing start end i p (Err (NoMatch.DeepAt q)) = Err (ClauseError.Deep q)
 
   -- by the rule, from where the trivia after the name ended. Row 10, "rule Unsupported (after the word)"; row 11, "Parenthesized without `(`";
   -- row 8 inside a clause
-  abbrev pub argument : ℕ → ℕ → ℕ → ClauseRule → Result ℕ Refusal → Read
+  abbrev pub argument : ℕ → ℕ → Option ℕ → ClauseRule → Result ℕ Refusal → Read
   argument start end i Bare s = bare_clause start end i
   argument start end i Parenthesized (Ok p) =
       cond (starts 40 (drop p text)) (closing start end i p (matching (style fortran) (suc p) (drop (suc p) text))) (failed Reason.NoParenthesis p)
@@ -94,7 +103,7 @@ module _ (book : Book) (text : List ℕ) where
   unfolding leading entry_from rule_at matching skip trimmed
   clause_at at =
       cond (eqb (word_length at) 0) (failed Reason.NoClause at)
-      (argument book.ignores_case text at (at + word_length at) (index_or (found at)) (rule_or book.default (found at) book.clauses)
+      (argument book.ignores_case text at (at + word_length at) (found at) (rule_or book.default (found at) book.clauses)
       (skip book.ignores_case text (at + word_length at)))
 
 -- a word of a text that is not too long

@@ -6,7 +6,7 @@ pub mod records;
 pub mod single;
 pub mod steps;
 
-ghost use Rattle.std.specs.Prelude.{◌≡◌, ◌≤◌, min, length};
+ghost use Rattle.std.specs.Prelude.{◌≡◌, min, length};
 ghost use Rattle.refusal.specs.Answer.{told};
 ghost use Rattle.rulebook.specs.Index.{Fresh};
 ghost use Rattle.clause.specs.Calls.{Admits, SequenceCall, sequence_call};
@@ -33,6 +33,13 @@ pub struct ClauseRecord {
     pub preceded: bool,
     // a comma stands after the last clause
     pub trailing: bool,
+}
+
+// The clauses of a text under a book.
+#[derive(Clone, Copy)]
+pub struct ClauseList<'a> {
+    pub book: &'a CheckedBook<'a>,
+    pub text: &'a [u8],
 }
 
 // How many clauses were read, and the place of the unread rest.
@@ -86,7 +93,7 @@ pub enum Progress {
 // A sequence between two clauses.
 #[derive(Clone, Copy, Debug, PartialEq, Eq)]
 pub struct SequenceState {
-    // the record for the slot of the last step, zeroed if that step read no clause
+    // the record for the slot of the last step, zeroed if that step read no clause: no Option, since it is written as it is, and a slot without a clause is zero
     pub clause: ClauseRecord,
     pub progress: Progress,
     pub at: usize,
@@ -100,10 +107,10 @@ pub struct SequenceState {
     pub clean: usize,
 }
 
-// The answer with its slots, by value.
+// An answer with its record slots, by value: of a sequence, or of a line.
 #[derive(Clone, Copy)]
-pub struct SequenceArray<const N: usize> {
-    pub answer: Result<SequenceEnd, Refusal>,
+pub struct RecordArray<A, const N: usize> {
+    pub answer: Result<A, Refusal>,
     pub records: [ClauseRecord; N],
 }
 
@@ -120,30 +127,6 @@ fn admitted<'a>(
     rulebook::checked(book, index)
 }
 
-// The clauses of a text into so many of the lent slots; every other slot is zeroed.
-fn parse_into(
-    book: &[u8],
-    text: &[u8],
-    slots: usize,
-    records: &mut [ClauseRecord],
-) -> Result<SequenceEnd, Refusal>
-    requires { slots ≤ length records.old }
-    ensures { record { answer = told result; records = records.new }
-        ≡ sequence_into book.now text.now slots (length records.old) }
-{
-    let mut index = Index::new();
-    match admitted(book, text, &mut index) {
-        Ok(book) => {
-            let start = steps::start_at(&book, text, 0, slots);
-            records::read_from(&book, text, start, records)
-        }
-        Err(refusal) => {
-            records.fill(records::zero_record());
-            Err(refusal)
-        }
-    }
-}
-
 // The clauses of a text into the lent slots. Refusals 1, 2 and 4, then 8 and 10 to 14 in reading order.
 pub fn parse_sequence(
     book: &[u8],
@@ -153,7 +136,18 @@ pub fn parse_sequence(
     ensures { record { answer = told result; records = records.new }
         ≡ sequence_call book.now text.now (length records.old) }
 {
-    parse_into(book, text, records.len(), records)
+    let mut index = Index::new();
+    match admitted(book, text, &mut index) {
+        Ok(book) => {
+            let list = ClauseList { book: &book, text };
+            let start = list.start_at(0, records.len());
+            list.read_from(start, records)
+        }
+        Err(refusal) => {
+            records.fill(records::zero_record());
+            Err(refusal)
+        }
+    }
 }
 
 // The same over an array by value, of which so many slots are used: for callers that hold their records in a local.
@@ -162,10 +156,13 @@ pub fn parse_sequence_array<const N: usize>(
     text: &[u8],
     slots: usize,
     mut records: [ClauseRecord; N],
-) -> SequenceArray<N>
+) -> RecordArray<SequenceEnd, N>
     ensures { record { answer = told result.answer; records = result.records }
         ≡ sequence_into book.now text.now (min slots N) N }
 {
-    let answer = parse_into(book, text, slots.min(N), &mut records);
-    SequenceArray { answer, records }
+    let used = slots.min(N);
+    let lent = &mut records[..];
+    let answer = parse_sequence(book, text, &mut lent[..used]);
+    lent[used..].fill(records::zero_record());
+    RecordArray { answer, records }
 }

@@ -5,57 +5,52 @@ ghost use Rattle.clause.specs.Clause.{zero_record};
 ghost use Rattle.clause.specs.Calls.{SequenceCall};
 ghost use Rattle.clause.specs.Steps.{Proper, Started, state_at, records_from, read_on, settled};
 
-use crate::{ClauseRecord, SequenceEnd, SequenceState, steps};
+use crate::{ClauseList, ClauseRecord, SequenceEnd, SequenceState};
 use refusal::Refusal;
-use rulebook::CheckedBook;
 
-// Every slot gets the record of its step, a zeroed one once the list has ended. The result is the state after the last.
-// The first step that does not go on is the last that is made: from there on nothing but zeroed records would come.
-fn fill_records(
-    book: &CheckedBook,
-    text: &[u8],
-    start: SequenceState,
-    records: &mut [ClauseRecord],
-) -> SequenceState
-    requires { Proper book.now.bytes.now text.now start }
-    ensures state { result ≡ state_at book.now.bytes.now text.now start (length records.old) }
-    ensures records { records.new ≡ records_from book.now.bytes.now text.now start 0 (length records.old) }
-{
-    let mut s = start;
-    // by an index, since the rest is zeroed from there on
-    for i in 0..records.len() {
-        s = steps::next(book, text, s);
-        records[i] = s.clause;
-        if !s.goes_on() {
-            records[i + 1..].fill(zero_record());
-            return s;
-        }
-    }
-    s
-}
-
-// A record of no clause.
+// A record of no clause: `default`, with a contract that says what it is.
 pub fn zero_record() -> ClauseRecord
     ensures { result ≡ zero_record }
 {
     ClauseRecord::default()
 }
 
-// The clauses from a state on into the slots: each slot its record, all zeroed after a refusal.
-pub fn read_from(
-    book: &CheckedBook,
-    text: &[u8],
-    start: SequenceState,
-    records: &mut [ClauseRecord],
-) -> Result<SequenceEnd, Refusal>
-    requires { Started book.now.bytes.now text.now (length records.old) start }
-    ensures { record { answer = told result; records = records.new }
-        ≡ settled (length records.old) (read_on book.now.bytes.now text.now start) }
-{
-    let end = fill_records(book, text, start, records);
-    let answer = steps::finish(book, text, end);
-    if answer.is_err() {
-        records.fill(zero_record());
+impl ClauseList<'_> {
+    // Every slot gets the record of its step, a zeroed one once the list has ended. The result is the state after the last.
+    // The first step that does not go on is the last that is made: from there on nothing but zeroed records would come.
+    fn fill_records(&self, start: SequenceState, records: &mut [ClauseRecord]) -> SequenceState
+        requires { Proper self.now.book.now.bytes.now self.now.text.now start }
+        ensures state { result ≡ state_at self.now.book.now.bytes.now self.now.text.now start (length records.old) }
+        ensures records { records.new ≡ records_from self.now.book.now.bytes.now self.now.text.now start 0 (length records.old) }
+    {
+        let mut s = start;
+        // by an index, since the rest is zeroed from there on
+        for i in 0..records.len() {
+            s = self.next(s);
+            records[i] = s.clause;
+            if !s.goes_on() {
+                records[i + 1..].fill(zero_record());
+                return s;
+            }
+        }
+        s
     }
-    answer
+
+    // The clauses from a state on into the slots: each slot its record, all zeroed after a refusal.
+    pub fn read_from(
+        &self,
+        start: SequenceState,
+        records: &mut [ClauseRecord],
+    ) -> Result<SequenceEnd, Refusal>
+        requires { Started self.now.book.now.bytes.now self.now.text.now (length records.old) start }
+        ensures { record { answer = told result; records = records.new }
+            ≡ settled (length records.old) (read_on self.now.book.now.bytes.now self.now.text.now start) }
+    {
+        let end = self.fill_records(start, records);
+        let answer = self.finish(end);
+        if answer.is_err() {
+            records.fill(zero_record());
+        }
+        answer
+    }
 }

@@ -7,15 +7,14 @@ ghost use Rattle.rulebook.specs.Book.{book_of};
 ghost use Rattle.clause.specs.Clause.{style, word_record, bare_clause, closing, argument as argument_of, clause_at, WordIn, Clean};
 ghost use Rattle.clause.specs.Sequence.{separated};
 
-use crate::{ClauseError, ClauseRead, ClauseRecord, Separation};
+use crate::{ClauseError, ClauseList, ClauseRead, ClauseRecord, Separation};
 use ascii::Range;
 use ascii::sets::Word;
 use bookform::ClauseRule;
 use code::{CodeText, CommentStyle, NoMatch};
 use refusal::{Reason, Refusal};
-use rulebook::CheckedBook;
 
-// A clause's word in its text, and its entry in the book, 65,535 for none.
+// A clause's word in its text, and its entry in the book, if it has one.
 #[derive(Clone, Copy)]
 struct ClauseWord<'a> {
     text: &'a [u8],
@@ -24,12 +23,15 @@ struct ClauseWord<'a> {
     clean: usize,
     start: usize,
     end: usize,
-    entry: u16,
+    entry: Option<u16>,
     ghost word: { WordIn text.now start end },
     ghost rest: { Clean fortran text.now clean },
 }
 
-// A place of a text as a record holds it.
+// What a record tells C of a word without an entry.
+const NO_ENTRY: u16 = 65535;
+
+// A place of a text as a record holds it. No `TryFrom`: it always fits, which the contract says.
 fn narrow(place: usize) -> u16
     requires { place ≤ max_length }
     ensures { result ≡ place }
@@ -37,7 +39,7 @@ fn narrow(place: usize) -> u16
     place as u16
 }
 
-// The comments that matching passes over.
+// The comments that matching passes over, by bit 0 of a book. No `From`: a split has others (`delimiter::split::style_of`).
 fn style_of(fortran: bool) -> CommentStyle
     ensures { result ≡ style fortran }
 {
@@ -59,7 +61,7 @@ impl ClauseWord<'_> {
         ClauseRecord {
             name_start: narrow(self.start),
             name_end: narrow(self.end),
-            entry: self.entry,
+            entry: self.entry.unwrap_or(NO_ENTRY),
             parenthesized,
             content_start: narrow(content.start),
             content_end: narrow(content.end),
@@ -131,32 +133,29 @@ impl ClauseWord<'_> {
     }
 }
 
-// The clause at a place of a text that is not too long, where nothing is unclosed from another place on.
-pub fn read_clause(
-    book: &CheckedBook,
-    text: &[u8],
-    at: usize,
-    clean: usize,
-) -> Result<ClauseRead, ClauseError>
-    requires short { length text.now ≤ max_length }
-    requires inside { at ≤ length text.now }
-    requires clean { Clean (book_of book.now.bytes.now).ignores_case text.now clean }
-    ensures { result ≡ clause_at (book_of book.now.bytes.now) text.now at }
-{
-    let end = ascii::run_end::<Word>(text, at);
-    if end == at {
-        return Err(ClauseError::Failed(Reason::NoClause.at(at)));
+impl ClauseList<'_> {
+    // The clause at a place of a text that is not too long, where nothing is unclosed from another place on.
+    pub fn read_clause(&self, at: usize, clean: usize) -> Result<ClauseRead, ClauseError>
+        requires short { length self.now.text.now ≤ max_length }
+        requires inside { at ≤ length self.now.text.now }
+        requires clean { Clean (book_of self.now.book.now.bytes.now).ignores_case self.now.text.now clean }
+        ensures { result ≡ clause_at (book_of self.now.book.now.bytes.now) self.now.text.now at }
+    {
+        let end = ascii::run_end::<Word>(self.text, at);
+        if end == at {
+            return Err(ClauseError::Failed(Reason::NoClause.at(at)));
+        }
+        let found = self.book.find_clause(&self.text[at..end]);
+        let word = ClauseWord {
+            text: self.text,
+            fortran: self.book.header.ignores_case,
+            clean,
+            start: at,
+            end,
+            entry: found.index,
+        };
+        word.argument(found.rule)
     }
-    let found = book.find_clause(&text[at..end]);
-    let word = ClauseWord {
-        text,
-        fortran: book.header.ignores_case,
-        clean,
-        start: at,
-        end,
-        entry: found.index,
-    };
-    word.argument(found.rule)
 }
 
 // What follows a clause that ends at a place: trivia, perhaps a comma, trivia. Without a comma the trivia is passed already.

@@ -7,12 +7,11 @@ ghost use Rattle.clause.specs.Steps.{Proper, Ready, begun as begun_of, start_at 
 ghost use Rattle.refusal.specs.Verdict.{refusal_at};
 
 use crate::{
-    ClauseError, ClauseRead, ClauseRecord, Progress, Separation, SequenceEnd, SequenceState,
-    records, single,
+    ClauseError, ClauseList, ClauseRead, ClauseRecord, Progress, Separation, SequenceEnd,
+    SequenceState, records, single,
 };
 use bookform::ClauseRule;
 use refusal::{Reason, Refusal};
-use rulebook::CheckedBook;
 
 fn begun(progress: Progress, at: usize, slots: usize, clean: usize) -> SequenceState
     ensures { result ≡ begun_of progress at slots clean }
@@ -25,17 +24,6 @@ fn begun(progress: Progress, at: usize, slots: usize, clean: usize) -> SequenceS
         left: slots,
         count: 0,
         clean,
-    }
-}
-
-// The start at a place of a text, with so many slots.
-pub fn start_at(book: &CheckedBook, text: &[u8], at: usize, slots: usize) -> SequenceState
-    requires { at ≤ length text.now }
-    ensures { result ≡ start_at_of book.now.bytes.now text.now slots at }
-{
-    match lexer::trivia::skip(text, at, book.header.ignores_case) {
-        Ok(place) => begun(Progress::Going, place, slots, text.len()),
-        Err(refusal) => begun(Progress::Refused(refusal), refusal.place, slots, text.len()),
     }
 }
 
@@ -103,63 +91,82 @@ impl SequenceState {
     }
 }
 
-// The default rule judges a clause that fails.
-fn judged(book: &CheckedBook, s: SequenceState, refusal: Refusal) -> SequenceState
-    ensures { result ≡ cond (is_unsupported (book_of book.now.bytes.now).default) (stopped_of s refusal) (still_of s Progress.Ended) }
-{
-    if matches!(book.header.default_rule, ClauseRule::Unsupported) {
-        s.stopped(refusal)
-    } else {
-        s.still(Progress::Ended)
+impl ClauseList<'_> {
+    // The start at a place of the text, with so many slots.
+    pub fn start_at(&self, at: usize, slots: usize) -> SequenceState
+        requires { at ≤ length self.now.text.now }
+        ensures { result ≡ start_at_of self.now.book.now.bytes.now self.now.text.now slots at }
+    {
+        match lexer::trivia::skip(self.text, at, self.book.header.ignores_case) {
+            Ok(place) => begun(Progress::Going, place, slots, self.text.len()),
+            Err(refusal) => begun(
+                Progress::Refused(refusal),
+                refusal.place,
+                slots,
+                self.text.len(),
+            ),
+        }
     }
-}
 
-// A clause that was read: a slot for it, and what follows.
-fn took(book: &CheckedBook, text: &[u8], s: SequenceState, read: ClauseRead) -> SequenceState
-    requires { (read.end ≤ length text.now) × (s.count ≤ max_length) }
-    ensures { result ≡ cond (eqb s.left 0) (stopped_of s (refusal_at Reason.NoSlot s.at))
-        (behind_of (length text.now) s read (separated (book_of book.now.bytes.now).ignores_case text.now read.end)) }
-{
-    if s.left == 0 {
-        return s.stopped(Reason::NoSlot.at(s.at));
+    // The default rule judges a clause that fails.
+    fn judged(&self, s: SequenceState, refusal: Refusal) -> SequenceState
+        ensures { result ≡ cond (is_unsupported (book_of self.now.book.now.bytes.now).default) (stopped_of s refusal) (still_of s Progress.Ended) }
+    {
+        if matches!(self.book.header.default_rule, ClauseRule::Unsupported) {
+            s.stopped(refusal)
+        } else {
+            s.still(Progress::Ended)
+        }
     }
-    match single::separation(text, read.end, book.header.ignores_case) {
-        Ok(separation) => s.gone(text.len(), read, separation),
-        Err(refusal) => s.stopped(refusal),
-    }
-}
 
-// One clause more, where the sequence goes on.
-fn onward(book: &CheckedBook, text: &[u8], s: SequenceState) -> SequenceState
-    requires { Ready book.now.bytes.now text.now s }
-    ensures { result ≡ onward_of (book_of book.now.bytes.now) text.now s Progress.Going }
-{
-    if s.at == text.len() {
-        return s.still(Progress::Ended);
+    // A clause that was read: a slot for it, and what follows.
+    fn took(&self, s: SequenceState, read: ClauseRead) -> SequenceState
+        requires { (read.end ≤ length self.now.text.now) × (s.count ≤ max_length) }
+        ensures { result ≡ cond (eqb s.left 0) (stopped_of s (refusal_at Reason.NoSlot s.at))
+            (behind_of (length self.now.text.now) s read (separated (book_of self.now.book.now.bytes.now).ignores_case self.now.text.now read.end)) }
+    {
+        if s.left == 0 {
+            return s.stopped(Reason::NoSlot.at(s.at));
+        }
+        match single::separation(self.text, read.end, self.book.header.ignores_case) {
+            Ok(separation) => s.gone(self.text.len(), read, separation),
+            Err(refusal) => s.stopped(refusal),
+        }
     }
-    match single::read_clause(book, text, s.at, s.clean) {
-        Ok(read) => took(book, text, s, read),
-        Err(ClauseError::Failed(refusal)) => judged(book, s, refusal),
-        Err(ClauseError::Deep(place)) => s.stopped(Reason::TooDeep.at(place)),
-    }
-}
 
-// The state after one clause more; its record is for the next slot.
-pub fn next(book: &CheckedBook, text: &[u8], s: SequenceState) -> SequenceState
-    requires { Proper book.now.bytes.now text.now s }
-    ensures { result ≡ next_state book.now.bytes.now text.now s }
-{
-    if s.goes_on() {
-        onward(book, text, s)
-    } else {
-        s.still(s.progress)
+    // One clause more, where the sequence goes on.
+    fn onward(&self, s: SequenceState) -> SequenceState
+        requires { Ready self.now.book.now.bytes.now self.now.text.now s }
+        ensures { result ≡ onward_of (book_of self.now.book.now.bytes.now) self.now.text.now s Progress.Going }
+    {
+        if s.at == self.text.len() {
+            return s.still(Progress::Ended);
+        }
+        match self.read_clause(s.at, s.clean) {
+            Ok(read) => self.took(s, read),
+            Err(ClauseError::Failed(refusal)) => self.judged(s, refusal),
+            Err(ClauseError::Deep(place)) => s.stopped(Reason::TooDeep.at(place)),
+        }
     }
-}
 
-// The answer, once a step more than there are slots has told whether a clause is left.
-pub fn finish(book: &CheckedBook, text: &[u8], s: SequenceState) -> Result<SequenceEnd, Refusal>
-    requires { Proper book.now.bytes.now text.now s }
-    ensures { result ≡ answer_of (next_state book.now.bytes.now text.now s) }
-{
-    next(book, text, s).answer()
+    // The state after one clause more; its record is for the next slot. `Proper`, here and where steps are made, tells of a book, a text and a state: a type
+    // that holds it would be made anew at each step.
+    pub fn next(&self, s: SequenceState) -> SequenceState
+        requires { Proper self.now.book.now.bytes.now self.now.text.now s }
+        ensures { result ≡ next_state self.now.book.now.bytes.now self.now.text.now s }
+    {
+        if s.goes_on() {
+            self.onward(s)
+        } else {
+            s.still(s.progress)
+        }
+    }
+
+    // The answer, once a step more than there are slots has told whether a clause is left.
+    pub fn finish(&self, s: SequenceState) -> Result<SequenceEnd, Refusal>
+        requires { Proper self.now.book.now.bytes.now self.now.text.now s }
+        ensures { result ≡ answer_of (next_state self.now.book.now.bytes.now self.now.text.now s) }
+    {
+        self.next(s).answer()
+    }
 }

@@ -17,8 +17,15 @@ use Rattle.code.specs.declared.Flags.{Flags}
 use Rattle.code.specs.Code.{has_escapes, hides_next, is_plain}
 use Rattle.code.specs.Marks.{clean, flags_at, marks_from, marked_from, is_dull, dulls}
 use Rattle.code.proofs.Laws.{drop_at}
-use Rattle.code.proofs.WalkLaws.{plain_code}
+use Rattle.code.proofs.WalkLaws.{plain-parts, plain_code}
 use Rattle.code.proofs.MarkLaws.{clean-code, quote-plain, block_goes, line-goes, ones, flag-code}
+
+-- four tests that all hold
+four : (a b c d : Bool) → (a && b && c && d) ≡ true → (a ≡ true) × (b ≡ true) × (c ≡ true) × (d ≡ true)
+four a b c d h =
+    let p = and_left (a && b && c) d h in
+    let q = and_left (a && b) c p in
+    (and_left a b q, and_right a b q, and_right (a && b) c p, and_right (a && b && c) d h)
 
 -- one dull byte, and a row of them
 module _ (style : CommentStyle) (s : List ℕ) where
@@ -26,17 +33,10 @@ module _ (style : CommentStyle) (s : List ℕ) where
     abbrev here : ℕ
     here = get_or s i 0
 
-    plain-part : is_plain here ≡ true
-    plain-part = and_left (is_plain here) (not (eqb here 92)) (and_left (is_plain here && not (eqb here 92)) (not (eqb here 42)) (and_left (is_plain here && not (eqb here 92) && not (eqb here 42)) (not (is_eol here)) d))
-
-    no-escape : eqb here 92 ≡ false
-    no-escape = not-true (eqb here 92) (and_right (is_plain here) (not (eqb here 92)) (and_left (is_plain here && not (eqb here 92)) (not (eqb here 42)) (and_left (is_plain here && not (eqb here 92) && not (eqb here 42)) (not (is_eol here)) d)))
-
-    no-star : eqb here 42 ≡ false
-    no-star = not-true (eqb here 42) (and_right (is_plain here && not (eqb here 92)) (not (eqb here 42)) (and_left (is_plain here && not (eqb here 92) && not (eqb here 42)) (not (is_eol here)) d))
-
-    no-eol : is_eol here ≡ false
-    no-eol = not-true (is_eol here) (and_right (is_plain here && not (eqb here 92) && not (eqb here 42)) (not (is_eol here)) d)
+    parts : (is_plain here ≡ true) × (eqb here 92 ≡ false) × (eqb here 42 ≡ false) × (is_eol here ≡ false)
+    parts =
+        let p = four (is_plain here) (not (eqb here 92)) (not (eqb here 42)) (not (is_eol here)) d in
+        (p.0, not-true (eqb here 92) p.1, not-true (eqb here 42) p.2, not-true (is_eol here) p.3)
 
     -- so it hides nothing in a literal in q, if it is not q
     plain_in : (b q next : ℕ) → eqb b 92 ≡ false → eqb b q ≡ false → hides_next style q b next ≡ false
@@ -47,22 +47,19 @@ module _ (style : CommentStyle) (s : List ℕ) where
         none false = refl
 
     no-quotes : (eqb here 39 ≡ false) × (eqb here 34 ≡ false)
-    no-quotes =
-        let e = not-true (eqb here 39 || eqb here 34 || eqb here 47 || eqb here 33) plain-part in
-        let a = or-none (eqb here 39 || eqb here 34 || eqb here 47) (eqb here 33) e in
-        let b = or-none (eqb here 39 || eqb here 34) (eqb here 47) a.0 in
-        or-none (eqb here 39) (eqb here 34) b.0
+    no-quotes = or-none (eqb here 39) (eqb here 34) (plain-parts here parts.0).0
 
     pub flags-dull : flags_at style s i ≡ flags_at style s (i + 1)
     unfolding flags_at
     flags-dull =
+        let p = parts in
         let q = no-quotes in
         rw (
-          clean-code style s i h (plain_code style s i h plain-part),
-          quote-plain style s i 39 h (plain_in here 39 (get_or s (i + 1) 0) no-escape q.0) q.0,
-          quote-plain style s i 34 h (plain_in here 34 (get_or s (i + 1) 0) no-escape q.1) q.1,
-          block_goes style s i h (rw no-star refl),
-          line-goes style s i h no-eol,
+          clean-code style s i h (plain_code style s i h p.0),
+          quote-plain style s i 39 h (plain_in here 39 (get_or s (i + 1) 0) p.1 q.0) q.0,
+          quote-plain style s i 34 h (plain_in here 34 (get_or s (i + 1) 0) p.1 q.1) q.1,
+          block_goes style s i h (rw p.2 refl),
+          line-goes style s i h p.3,
         ) refl
 
   -- n of them from a place on

@@ -4,17 +4,16 @@ use mathlib.Core.Path.{◌≡◌, refl, ap, ◌∙◌}
 use mathlib.Core.Bool.{Bool, true, false, cond, not, ◌&&◌, ◌||◌}
 use Rattle.std.specs.Prelude.{Option, Some, None}
 use mathlib.Core.List.{List, [], ◌∷◌}
-use Prim.Native.Nat.{ℕ, zero, suc, ◌+◌, ◌-◌, ◌<◌, ◌≤◌, suc-le-suc}
+use Prim.Native.Nat.{ℕ, zero, suc, ◌+◌, ◌-◌, ◌<◌, ◌≤◌}
 use native.Mathlib.Nat.{add-zero}
 use native.Mathlib.Numerals.{add-one}
 use native.Mathlib.Omega.{arith}
-use borrow.Author.Tests.{lt-ltb, le-ltb, eqb-true}
-use lib.Dec.{eqb, ltb, leb-suc-suc}
-use lib.ListN.{length, drop, get_or, length-drop, drop_of_length-le}
+use borrow.Author.Tests.{lt-ltb, le-ltb}
+use lib.Dec.{eqb}
+use lib.ListN.{length, drop, get_or, drop_of_length-le}
 use lib.Seq.{drop-cons, drop-drop, get_or-drop}
 use Rattle.ascii.specs.Ascii.{is_eol}
-use Rattle.ascii.specs.Text.{leading, up_to}
-use Rattle.ascii.proofs.Flags.{and_right}
+use Rattle.ascii.specs.Text.{up_to}
 use Rattle.code.specs.declared.CommentStyle.{CommentStyle}
 use Rattle.code.specs.declared.Piece.TheVariants.{Code, Hidden, OpenQuote, OpenComment}
 use Rattle.code.specs.declared.Unclosed.TheVariants.{Quote, Comment}
@@ -24,42 +23,16 @@ pub more-more : (a b : ℕ) (o : Option ℕ) → more a (more b o) ≡ more (a +
 more-more a b None = refl
 more-more a b (Some k) = ap Some (omega arith)
 
--- a literal and a block comment by the end that is found for them
-pub quoted-before : (at e : ℕ) (o : Option ℕ) → Some e ≡ more (at + 1) o → Hidden (e - at) ≡ quoted o
-quoted-before at e None h = absurd (let z : ◌≡◌ {A = ℕ} 0 1 = cc in omega arith)
-quoted-before at e (Some n) h = let f : e ≡ at + 1 + n = cc in ap Hidden (omega arith)
-
-pub quoted-never : (k : ℕ) (o : Option ℕ) → None ≡ more k o → OpenQuote ≡ quoted o
-quoted-never k None h = refl
-quoted-never k (Some n) h = absurd (let z : ◌≡◌ {A = ℕ} 0 1 = cc in omega arith)
-
-pub commented-before : (at e : ℕ) (o : Option ℕ) → Some e ≡ more (at + 2) o → Hidden (e - at) ≡ commented o
-commented-before at e None h = absurd (let z : ◌≡◌ {A = ℕ} 0 1 = cc in omega arith)
-commented-before at e (Some n) h = let f : e ≡ at + 2 + n = cc in ap Hidden (omega arith)
-
-pub commented-never : (k : ℕ) (o : Option ℕ) → None ≡ more k o → OpenComment ≡ commented o
-commented-never k None h = refl
-commented-never k (Some n) h = absurd (let z : ◌≡◌ {A = ℕ} 0 1 = cc in omega arith)
-
 -- a text from one of its places on, and the byte after that
 module _ (s : List ℕ) (i : ℕ) where
   pub drop_at : i < length s → drop i s ≡ get_or s i 0 ∷ drop (i + 1) s
   drop_at h = rw (add-one i) (drop-cons s i 0 h)
-
-  pub next-at : (k : ℕ) → get_or (drop i s) k 0 ≡ get_or s (i + k) 0
-  next-at k = get_or-drop i s k 0
 
   pub head_at : get_or (drop i s) 0 0 ≡ get_or s i 0
   head_at = get_or-drop i s 0 0 ∙ ap (λ k. get_or s k 0) (add-zero i)
 
 pub drop-two : (s : List ℕ) (i : ℕ) → drop 1 (drop (i + 1) s) ≡ drop (i + 2) s
 drop-two s i = let n : i + 1 + 1 ≡ i + 2 = omega arith in drop-drop 1 (i + 1) s ∙ ap (λ k. drop k s) n
-
--- what is not 0 stands inside the text
-pub inside : (s : List ℕ) (k b : ℕ) → 0 < b → get_or s k 0 ≡ b → k < length s
-inside [] k b h e = omega arith
-inside (x ∷ s) zero b h e = omega arith
-inside (x ∷ s) (suc k) b h e = suc-le-suc (inside s k b h e)
 
 -- literals
 module _ (style : CommentStyle) (q x : ℕ) (xs : List ℕ) where
@@ -111,36 +84,9 @@ module _ (s : List ℕ) (i : ℕ) where
   unfolding block_end
   block-plain h e = rw (drop_at s i h, head_at s (i + 1), e) (more-more i 1 (block_end (drop (i + 1) s)))
 
-  pub block_within : (eqb (get_or s i 0) 42 && eqb (get_or s (i + 1) 0) 47) ≡ true → i + 1 < length s
-  block_within e = inside s (i + 1) 47 (omega arith) (eqb-true _ _ (and_right (eqb (get_or s i 0) 42) _ e))
-
   pub block_none : length s ≤ i → more i (block_end (drop i s)) ≡ None
   unfolding block_end
   block_none h = rw (drop_of_length-le s h)
-
--- up to and with the first byte that has a property: the run before it, and that byte if there is one
-pub up-to : (p : ℕ → Bool) (xs : List ℕ) → up_to p xs ≡ leading (λ b. not (p b)) xs + cond (ltb (leading (λ b. not (p b)) xs) (length xs)) 1 0
-unfolding up_to leading
-up-to p [] = refl
-up-to p (x ∷ xs) = go (p x) (up-to p xs)
-  where
-    go : (b : Bool) → up_to p xs ≡ leading (λ b. not (p b)) xs + cond (ltb (leading (λ b. not (p b)) xs) (length xs)) 1 0
-        → cond b 1 (suc (up_to p xs))
-        ≡ cond (not b) (suc (leading (λ b. not (p b)) xs)) 0 + cond (ltb (cond (not b) (suc (leading (λ b. not (p b)) xs)) 0) (suc (length xs))) 1 0
-    go true h = rw (lt-ltb 0 (suc (length xs)) (omega arith)) refl
-    go false h = rw (h, leb-suc-suc) (omega arith)
-
--- the end of a line comment from a place i on, by the end e of the run of its line's bytes
-module _ (s : List ℕ) (i e : ℕ) (r : e ≡ i + leading (λ b. not (is_eol b)) (drop i s)) where
-  pub line-more : e < length s → e + 1 ≡ i + up_to is_eol (drop i s)
-  line-more h =
-      let n = length-drop i s in
-      rw (up-to is_eol (drop i s), lt-ltb (leading (λ b. not (is_eol b)) (drop i s)) (length (drop i s)) (omega arith)) (omega arith)
-
-  pub line-all : length s ≤ e → e ≡ i + up_to is_eol (drop i s)
-  line-all h =
-      let n = length-drop i s in
-      rw (up-to is_eol (drop i s), le-ltb (leading (λ b. not (is_eol b)) (drop i s)) (length (drop i s)) (omega arith)) (omega arith)
 
 -- pieces at a place
 module _ (style : CommentStyle) (s : List ℕ) (i : ℕ) where

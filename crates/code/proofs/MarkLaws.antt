@@ -217,9 +217,6 @@ module _ (style : CommentStyle) (s : List ℕ) where
   marks-lt zero i = rw (pow-zero 2) (omega arith)
   marks-lt (suc n) i = rw (pow-succ' 2 n) (omega (arith, mark-small (clean style s i), marks-lt n (suc i)))
 
-  pub marks-small : (n i : ℕ) → n ≤ 8 → marks_from style s i n < 256
-  marks-small n i h = omega (arith, marks-lt n i, pow_mono h)
-
   pub marks-fit : (n i : ℕ) → n ≤ 32 → marks_from style s i n < 4294967296
   marks-fit n i h = omega (arith, marks-lt n i, pow_mono h)
 

@@ -6,13 +6,11 @@ use mathlib.Core.List.{List, [], ◌∷◌}
 use Rattle.std.specs.Prelude.{Option, Some, None, Ok, Err}
 use Prim.Native.Nat.{ℕ, zero, suc, ◌+◌, ◌-◌, ◌<◌, ◌≤◌}
 use native.Mathlib.Omega.{arith}
-use native.Mathlib.Nat.{add-zero}
 use borrow.Author.Tests.{not-true}
 use lib.Dec.{eqb}
 use lib.ListN.{length, drop, get_or}
 use lib.Seq.{drop-drop}
-use Rattle.ascii.specs.Text.{leading}
-use Rattle.ascii.proofs.Flags.{or-none, by_cases}
+use Rattle.ascii.proofs.Flags.{or-none}
 use Rattle.code.specs.declared.CommentStyle.{CommentStyle}
 use Rattle.code.specs.declared.Unclosed.{Unclosed}
 use Rattle.code.specs.declared.Unclosed.TheVariants.{Quote, Comment}
@@ -24,6 +22,13 @@ use Rattle.code.specs.Bracket.{Brackets, held, deep, wrong, is_empty, taken}
 use Rattle.code.specs.Matching.{Match, matched, match_from, unless_open, matching}
 use Rattle.code.proofs.Laws.{piece_is, scan-code, scan-hidden}
 
+-- a plain byte opens no literal and no comment
+pub plain-parts : (b : ℕ) → is_plain b ≡ true → ((eqb b 39 || eqb b 34) ≡ false) × (eqb b 47 ≡ false) × (eqb b 33 ≡ false)
+plain-parts b t =
+    let e = or-none (eqb b 39 || eqb b 34 || eqb b 47) (eqb b 33) (not-true (eqb b 39 || eqb b 34 || eqb b 47 || eqb b 33) t) in
+    let f = or-none (eqb b 39 || eqb b 34) (eqb b 47) e.0 in
+    (f.0, f.1, e.1)
+
 -- a step of the walk keeps the fault
 module _ (style : CommentStyle) (s : List ℕ) (i : ℕ) where
   pub fault-code : i < length s → piece style (drop i s) ≡ Code → (scan_at style s i).fault ≡ (scan_at style s (i + 1)).fault
@@ -34,11 +39,7 @@ module _ (style : CommentStyle) (s : List ℕ) (i : ℕ) where
 
   -- a plain byte is one of code
   pub plain_code : i < length s → is_plain (get_or s i 0) ≡ true → piece style (drop i s) ≡ Code
-  plain_code h t =
-      let e = not-true (eqb (get_or s i 0) 39 || eqb (get_or s i 0) 34 || eqb (get_or s i 0) 47 || eqb (get_or s i 0) 33) t in
-      let a = or-none (eqb (get_or s i 0) 39 || eqb (get_or s i 0) 34 || eqb (get_or s i 0) 47) (eqb (get_or s i 0) 33) e in
-      let b = or-none (eqb (get_or s i 0) 39 || eqb (get_or s i 0) 34) (eqb (get_or s i 0) 47) a.0 in
-      piece_is style s i h ∙ rw (b.0, b.1, a.1) refl
+  plain_code h t = let p = plain-parts (get_or s i 0) t in piece_is style s i h ∙ rw (p.0, p.1, p.2) refl
 
 -- where the match is found the walk has come to it, with the same fault behind
 module _ (style : CommentStyle) (p : ℕ) where
@@ -125,24 +126,3 @@ unmatched (Comment p) m = refl
 pub match-unclosed : (style : CommentStyle) (s : List ℕ) (at : ℕ) (u : Unclosed) → (scan_at style s at).fault ≡ Some u → matching style at (drop at s) ≡ Err Unmatched
 unfolding matching
 match-unclosed style s at u e = rw e (unmatched u (match_from (41 ∷ []) (scan_at style s at).codes))
-
--- a run of plain bytes keeps the fault
-module _ (style : CommentStyle) (q : ℕ → Bool) (plain : (b : ℕ) → q b ≡ true → is_plain b ≡ true) where
-  first : (x : ℕ) (xs : List ℕ) → is_plain x ≡ true → piece style (x ∷ xs) ≡ Code
-  first x xs e = plain_code style (x ∷ xs) 0 (omega arith) e
-
-  one : (x : ℕ) (xs : List ℕ) (at : ℕ) → piece style (x ∷ xs) ≡ Code → (scan_from style 0 at (x ∷ xs)).fault ≡ (scan_from style 0 (suc at) xs).fault
-  unfolding scan_from
-  one x xs at e = rw e refl
-
-  run : (xs : List ℕ) (at : ℕ) → (scan_from style 0 at xs).fault ≡ (scan_from style 0 (at + leading q xs) (drop (leading q xs) xs)).fault
-  unfolding leading
-  run [] at = rw (add-zero at) refl
-  run (x ∷ xs) at =
-      let k : at + suc (leading q xs) ≡ suc at + leading q xs = omega arith in
-      by_cases (q x)
-      (λ e. rw (e, k) (one x xs at (first x xs (plain x e)) ∙ run xs (suc at)))
-      (λ e. rw (e, add-zero at) refl)
-
-  pub fault-run : (s : List ℕ) (i : ℕ) → (scan_at style s i).fault ≡ (scan_at style s (i + leading q (drop i s))).fault
-  fault-run s i = run (drop i s) i ∙ rw (drop-drop (leading q (drop i s)) i s) refl

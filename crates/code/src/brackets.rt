@@ -43,7 +43,7 @@ impl Bracket {
         }
     }
 
-    // The kind of an opening bracket.
+    // The kind of an opening bracket; it is asked of no other byte, so that it needs no Option.
     pub fn opened_by(b: u8) -> Bracket
         ensures { result ≡ kind_of b }
     {

@@ -48,8 +48,7 @@ pub fn line_end(text: &[u8], from: usize) -> usize
     ensures value { result ≡ from + up_to is_eol (drop from text.now) }
     ensures lower_bound { (from ≤ result) × (result ≤ length text.now) }
 {
-    let end = ascii::run_end::<InLine>(text, from);
-    if end < text.len() { end + 1 } else { end }
+    ascii::past_run::<InLine>(text, from)
 }
 
 // The block comment that `/*` at a place begins.
@@ -64,11 +63,12 @@ fn block_at(text: &[u8], at: usize) -> Piece
     }
 }
 
-// Whether a byte begins no literal and no comment, in any style: most bytes, so that a walk asks this first.
+// Whether a byte begins no literal and no comment, in any style: most bytes, so that a walk asks this first. By `|`, of which the compiler makes a set of
+// bits: a `matches!` took seven instructions a byte in place of two.
 pub fn is_plain(b: u8) -> bool
     ensures { result ≡ is_plain b }
 {
-    !matches!(b, b'\'' | b'"' | b'/' | b'!')
+    !((b == b'\'') | (b == b'"') | (b == b'/') | (b == b'!'))
 }
 
 impl CodeText<'_> {
@@ -184,7 +184,8 @@ impl CodeText<'_> {
         None
     }
 
-    // The next byte of code from a place on, or the end: of the text, or of its code before a literal or comment without an end.
+    // The next byte of code from a place on, or the text's end where there is none. No Option: the walks over a text's code go on while their place is
+    // before its end, and would have to turn a None into that end.
     pub fn next_code(&self, from: usize) -> usize
         requires { from ≤ length self.now.text.now }
         ensures from_value { (scan_at self.now.style self.now.text.now from).codes ≡ onward self.now.style self.now.text.now result }

@@ -33,7 +33,8 @@ pub struct CodeText<'a> {
     pub style: CommentStyle,
 }
 
-// What a text has at a place: a byte of code, a run of so many invisible bytes, or a literal or comment without an end.
+// What a text has at a place: a byte of code, a run of so many invisible bytes, or a literal or comment without an end. Walks match the four side by side, so it
+// is no Result of an Option.
 #[derive(Clone, Copy, Debug, PartialEq, Eq)]
 pub enum Piece {
     Code,

@@ -1,4 +1,5 @@
-// The marks of a text: from which of its places on no literal or comment is unclosed, found in one walk from its back.
+// The marks of a text: from which of its places on no literal or comment is unclosed, found in one walk from its back. Nothing asks them yet: they are for
+// sequences whose rest is scanned anew for each clause (docs/PORT.md).
 ghost use Rattle.std.specs.Prelude.{◌≡◌, true, cond, ◌+◌, ◌/◌, ◌<◌, ◌≤◌, ◌⊎◌, length, eqb, get_or};
 ghost use Rattle.code.specs.Marks.{clean, quote_clean, block_clean, line_clean, past_end, flags_at, near_at, marked_from, Marked, is_dull, dulls};
 
@@ -41,7 +42,8 @@ fn is_dull_eight(text: &[u8], at: usize) -> bool
     text[at..at + 8].iter().all(|b| is_dull(*b))
 }
 
-// A place of a text, with the flags N places behind it: from back to front, those of a place follow from those behind it.
+// A place of a text, with the flags N places behind it: from back to front, those of a place follow from those behind it. That the place is inside is asked by
+// those methods that ask its byte and is no ghost field: the last cell has spots behind the text's end.
 #[derive(Clone, Copy)]
 struct Spot<'a, const N: usize> {
     code: CodeText<'a>,
@@ -208,7 +210,8 @@ impl Spot<'_, 8> {
 }
 
 impl Spot<'_, 32> {
-    // The marks of the 32 places, eight by eight.
+    // The marks of the 32 places, eight by eight. A loop of the shape of `mixed_octet`'s: one for both would need a trait for what marks a part, and be no
+    // plainer.
     fn cell(&self) -> MarkBits
         requires { self.now.at ≤ 16384 }
         ensures { result ≡ marked_from self.now.code.style self.now.code.text.now self.now.at 32 }

@@ -22,11 +22,8 @@ impl CodeText<'_> {
                 match open.take(text[i]) {
                     Err(BracketError::Wrong) => return Err(NoMatch::Unmatched),
                     Err(BracketError::Deep) => return Err(NoMatch::DeepAt(i)),
-                    Ok(()) => {
-                        if open.is_empty() {
-                            return Ok(i);
-                        }
-                    }
+                    Ok(()) if open.is_empty() => return Ok(i),
+                    Ok(()) => {}
                 }
             }
             i = self.next_code(i + 1);

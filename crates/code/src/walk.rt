@@ -23,6 +23,7 @@ impl CodeText<'_> {
     }
 
     // Where a walk piece by piece comes to a place, passes it, or meets a piece without an end: from there on the same is unclosed as from its start.
+    // A place and no bool: what is known of it is said by the place.
     fn walked(&self, from: usize, at: usize) -> usize
         requires { (from ≤ length self.now.text.now) × (at ≤ length self.now.text.now) }
         ensures { (scan_at self.now.style self.now.text.now from).fault ≡ (scan_at self.now.style self.now.text.now result).fault }

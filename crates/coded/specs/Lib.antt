@@ -1,4 +1,3 @@
 pub mod Coded
-pub mod Judging
 pub mod Lines
 pub mod Sequences

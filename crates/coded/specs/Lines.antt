@@ -9,7 +9,7 @@ use Rattle.coded.specs.Coded.{coded_reading}
 abbrev pub end_of : ℕ → ℕ → ℕ → ℕ
 end_of size at end = max at (min end size)
 
--- so many answers, of lines that start where the one before has ended; a slot with no line holds zeros
+-- so many answers, of lines or other parts that start where the one before has ended; a slot with no part holds zeros
 unfoldable pub answers_from : (ℕ → ℕ → List ℕ) → List ℕ → ℕ → ℕ → ℕ → List ℕ → List (List ℕ)
 answers_from answer zeros size zero at ends = []
 answers_from answer zeros size (suc n) at [] = zeros ∷ answers_from answer zeros size n at []

@@ -56,7 +56,8 @@ pub fn separator_of(colon: u32) -> Separator
     }
 }
 
-// The low 32 bits of a refusal: its place, or their largest number.
+// The low 32 bits of a refusal: its place, or their largest number. What a number of the interface for C holds is worked out here and below, in no `From` of
+// the types that it tells of.
 pub fn place_code(place: usize) -> u64
     ensures { result ≡ place_code place }
 {

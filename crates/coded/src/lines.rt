@@ -1,7 +1,7 @@
 // The answers of many lines under one check of their book.
 ghost use Rattle.std.specs.Prelude.{◌≡◌, length};
 ghost use Rattle.refusal.specs.Answer.{told};
-ghost use Rattle.coded.specs.Judging.{JudgedAs};
+ghost use Rattle.rulebook.specs.Judged.{Judged, Judged-prop};
 ghost use Rattle.coded.specs.Coded.{coded_reading};
 ghost use Rattle.reader.specs.Calls.{line_call};
 
@@ -38,7 +38,7 @@ pub struct LineReader<'a, 'b> {
     pub map: &'b mut [u16],
     // record slots that a line may take
     pub slots: usize,
-    pub ghost judged: { JudgedAs book.now checked },
+    pub ghost judged: { Judged book.now checked } by { Judged-prop book.now checked },
 }
 
 impl AnswerPart<5> for LineReader<'_, '_> {

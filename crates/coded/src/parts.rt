@@ -19,17 +19,6 @@ pub fn part_end(size: usize, at: usize, end: usize) -> usize
     end.min(size).max(at)
 }
 
-// Zeroes the slots. A loop, as `fill` would clone an array, and asks that so many words fit in memory: not known of any N.
-fn clear<const N: usize>(slots: &mut [[u64; N]])
-    ensures { slots.new ≡ replicate (length slots.old) (replicate N 0) }
-{
-    // of its own: an array made inside the loop has no proof yet
-    let zeros = [0; N];
-    for slot in slots.iter_mut() {
-        *slot = zeros;
-    }
-}
-
 // How many parts were answered, each in its slot; a slot with no part is zeroed. A part ends at its end number, and starts where the one before has
 // ended.
 pub fn answer_parts<const N: usize, A: AnswerPart<N>>(
@@ -42,14 +31,19 @@ pub fn answer_parts<const N: usize, A: AnswerPart<N>>(
     ensures each { answers.new
         ≡ answers_from (λ at stop. A.answers by.old (take (stop - at) (drop at bytes.now))) (replicate N 0) (length bytes.now) (length answers.old) 0 ends.now }
 {
-    let n = ends.len().min(answers.len());
+    // of its own: an array made inside the loop has no proof yet
+    let zeros = [0; N];
+    let mut left = ends.iter();
     let mut at = 0;
-    // by an index: into the ends and the slots alike
-    for i in 0..n {
-        let stop = part_end(bytes.len(), at, ends[i]);
-        answers[i] = by.answer(&bytes[at..stop]);
-        at = stop;
+    for slot in answers.iter_mut() {
+        match left.next() {
+            Some(end) => {
+                let stop = part_end(bytes.len(), at, *end);
+                *slot = by.answer(&bytes[at..stop]);
+                at = stop;
+            }
+            None => *slot = zeros,
+        }
     }
-    clear(&mut answers[n..]);
-    n
+    ends.len().min(answers.len())
 }

@@ -2,7 +2,7 @@
 ghost use Rattle.std.specs.Prelude.{◌≡◌, length};
 ghost use Rattle.refusal.specs.Answer.{told};
 ghost use Rattle.clause.specs.Calls.{sequence_call};
-ghost use Rattle.coded.specs.Judging.{JudgedAs};
+ghost use Rattle.rulebook.specs.Judged.{Judged, Judged-prop};
 ghost use Rattle.coded.specs.Sequences.{coded_end};
 
 use crate::code_of;
@@ -28,7 +28,7 @@ pub struct SequenceReader<'a> {
     pub checked: Result<CheckedBook<'a>, Refusal>,
     // record slots that a sequence may take
     pub slots: usize,
-    pub ghost judged: { JudgedAs book.now checked },
+    pub ghost judged: { Judged book.now checked } by { Judged-prop book.now checked },
 }
 
 impl AnswerPart<2> for SequenceReader<'_> {

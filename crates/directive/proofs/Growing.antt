@@ -1,24 +1,15 @@
 -- A candidate that is a name may grow: it is one of its own beginnings. So the entry that was found answers the question.
 -- By induction over the name and over the entries. Assumes nothing.
 use Prim.Native.Nat.{ℕ, suc}
-use mathlib.Core.Bool.{Bool, true, false, cond, ◌&&◌, ◌||◌}
+use mathlib.Core.Bool.{Bool, true, false, cond, ◌&&◌, ◌||◌, or-true}
 use Rattle.std.specs.Prelude.{Option, Some, None}
 use mathlib.Core.Path.{◌≡◌, refl}
 use mathlib.Core.List.{List, [], ◌∷◌, ◌++◌, append_assoc, append-nil}
-use native.Mathlib.Omega.{arith}
 use lib.Dec.{eqb}
 use Rattle.ascii.specs.Text.{same_by}
 use Rattle.rulebook.specs.Book.{Entry, Book}
 use Rattle.rulebook.specs.Lookup.{comparison, entry_from}
 use Rattle.directive.specs.Name.{same_compact, entries_with, only, or_compact, entry_of, head_from, is_head, may_grow}
-
-or-true : (a : Bool) → (a || true) ≡ true
-or-true true = refl
-or-true false = refl
-
--- nothing is not something
-absent : {X : Type 0} (i : ℕ) → None ≡ Some i → X
-absent i e = absurd (let z : ◌≡◌ {A = ℕ} 0 1 = cc in omega arith)
 
 module _ (same : List ℕ → List ℕ → Bool) (c : List ℕ) where
   -- the whole name is its last beginning
@@ -38,7 +29,7 @@ module _ (same : List ℕ → List ℕ → Bool) (c : List ℕ) where
 -- by the first of the entries
 exact : (f : ℕ → ℕ) (c : List ℕ) (i k : ℕ) (es : List Entry) → entry_from f i c es ≡ Some k → is_head (same_by f) c es ≡ true
 unfolding entry_from
-exact f c i k [] e = absent k e
+exact f c i k [] e = cc
 exact f c i k (x ∷ es) e = go (exact f c (suc i) k es) (same_by f x.name c) refl e
   where
     go : (entry_from f (suc i) c es ≡ Some k → is_head (same_by f) c es ≡ true) → (b : Bool) → same_by f x.name c ≡ b → cond b (Some i) (entry_from f (suc i) c es) ≡ Some k → is_head (same_by f) c (x ∷ es) ≡ true
@@ -47,7 +38,7 @@ exact f c i k (x ∷ es) e = go (exact f c (suc i) k es) (same_by f x.name c) re
 
 compactly : (c : List ℕ) (i k : ℕ) (es : List Entry) → only (entries_with (λ n. same_compact n c) i es) ≡ Some k → is_head same_compact c es ≡ true
 unfolding entries_with
-compactly c i k [] e = absent k e
+compactly c i k [] e = cc
 compactly c i k (x ∷ es) e = go (compactly c (suc i) k es) (same_compact x.name c) refl e
   where
     go : (only (entries_with (λ n. same_compact n c) (suc i) es) ≡ Some k → is_head same_compact c es ≡ true) → (b : Bool) → same_compact x.name c ≡ b → only (cond b (i ∷ entries_with (λ n. same_compact n c) (suc i) es) (entries_with (λ n. same_compact n c) (suc i) es)) ≡ Some k
@@ -59,7 +50,7 @@ either : (optional : Bool) (a b : Option ℕ) (p q : Bool) (k : ℕ) → ((i : �
     → or_compact optional a b ≡ Some k → (p || (optional && q)) ≡ true
 either optional (Some i) b p q k f g e = rw (f i refl)
 either true None b p q k f g e = rw (g k e) (or-true p)
-either false None b p q k f g e = absent k e
+either false None b p q k f g e = cc
 
 pub named-grows : (book : Book) (c : List ℕ) (k : ℕ) → entry_of book c ≡ Some k → may_grow book c ≡ true
 unfolding entry_of may_grow

@@ -2,7 +2,7 @@
 -- has no more blanks than other bytes. So what is said of the candidate that a buffer keeps holds of every candidate. Assumes nothing.
 use mathlib.Core.Path.{◌≡◌, refl, sym, ◌∙◌}
 use mathlib.Core.Bool.{Bool, true, false, cond, ◌&&◌, ◌||◌, true≢false}
-use Rattle.std.specs.Prelude.{None}
+use Rattle.std.specs.Prelude.{None, Result, Ok, Err, is_err}
 use mathlib.Core.List.{List, [], ◌∷◌, ◌++◌}
 use Prim.Native.Nat.{ℕ, zero, suc, ◌+◌, ◌*◌, ◌<◌, ◌≤◌}
 use native.Mathlib.Omega.{arith}
@@ -13,24 +13,28 @@ use Rattle.ascii.specs.Ascii.{is_space, is_word, fold}
 use Rattle.ascii.specs.Text.{leading, same_by}
 use Rattle.ascii.proofs.Flags.{by_cases}
 use Rattle.ascii.proofs.Texts.{leading_le}
+use Rattle.bookform.specs.Format.{lead_of}
 use Rattle.rulebook.specs.Book.{Entry, Book, name_at, entries_from, header_of, book_of}
 use Rattle.rulebook.specs.Lookup.{comparison, entry_from}
 use Rattle.rulebook.proofs.NameLaws.{same-lengths}
 use Rattle.directive.specs.Name.{compact, same_compact, entries_with, or_compact, entry_of, head_from, is_head, may_grow, extended}
+use Rattle.directive.specs.declared.candidate.Full.{Full}
 use Rattle.directive.specs.Steps.{fitting, kept_if}
 
 -- a candidate that does not fit is too long, and one that does is what it should be
-pub fits-none : (c grown : List ℕ) (b : Bool) → b ≡ false → kept_if b c ≡ fitting grown → 512 < length grown
-fits-none c grown b h k =
+pub fits-none : (c grown : List ℕ) (r : Result (Unit {0}) Full) → is_err r ≡ true → kept_if r c ≡ fitting grown → 512 < length grown
+fits-none c grown (Ok done) h k = absurd (cc)
+fits-none c grown (Err full) h k =
     by_cases (leb (length grown) 512)
-    (λ m. let f = rw (h, m) at k in cc f)
+    (λ m. let f = rw m at k in cc f)
     (λ m. leb-false (length grown) 512 m)
 
-pub fits-some : (c grown : List ℕ) (b : Bool) → b ≡ true → kept_if b c ≡ fitting grown → c ≡ grown
-fits-some c grown b h k =
+pub fits-some : (c grown : List ℕ) (r : Result (Unit {0}) Full) → is_err r ≡ false → kept_if r c ≡ fitting grown → c ≡ grown
+fits-some c grown (Err full) h k = absurd (cc)
+fits-some c grown (Ok done) h k =
     by_cases (leb (length grown) 512)
-    (λ m. let f = rw (h, m) at k in cc f)
-    (λ m. let f = rw (h, m) at k in cc f)
+    (λ m. let f = rw m at k in cc f)
+    (λ m. let f = rw m at k in cc f)
 
 -- a byte of a word is no blank
 word-solid : (x : ℕ) → is_word x ≡ true → is_space x ≡ false
@@ -75,9 +79,6 @@ compact-word (x ∷ xs) = go (is_word x) refl (compact-word xs)
 abbrev pub Spaced : List ℕ → Type 0
 Spaced c = length c ≤ 2 * length (compact c)
 
-pub spaced-none : Spaced []
-spaced-none = omega arith
-
 spaced-add : (c w : List ℕ) → Spaced c → compact w ≡ w → 0 < length w → Spaced (extended c w)
 unfolding compact
 spaced-add [] w s e h = rw e (omega arith)
@@ -104,7 +105,7 @@ short-entries bs h lead (suc n) at =
 
 pub short-book : (bs : List ℕ) → ((i : ℕ) → get_or bs i 0 < 256) → Short (book_of bs).directives
 unfolding book_of
-short-book bs h = short-entries bs h (header_of bs).directives.lead (header_of bs).directives.count (header_of bs).directives.first
+short-book bs h = short-entries bs h (lead_of (header_of bs).directives.kind) (header_of bs).directives.count (header_of bs).directives.first
 
 -- by a comparison that a name never passes
 module _ (same : List ℕ → List ℕ → Bool) (c : List ℕ) (far : (a : List ℕ) → length a ≤ 255 → same a c ≡ false) where

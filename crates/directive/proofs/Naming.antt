@@ -1,7 +1,7 @@
 -- Laws of the search for a name, in the terms of its loop: what follows a word, where the search stops, and one turn of it.
 -- Assumes nothing.
 use mathlib.Core.Path.{◌≡◌, refl, sym, ◌∙◌}
-use mathlib.Core.Bool.{Bool, true, false, cond, ◌&&◌, true≢false}
+use mathlib.Core.Bool.{Bool, true, false, cond, ◌&&◌, and-false, true≢false}
 use Rattle.std.specs.Prelude.{Option, Some, None, Result, Ok, Err}
 use mathlib.Core.List.{List, [], ◌∷◌}
 use Prim.Native.Nat.{ℕ, zero, suc, ◌+◌, ◌-◌, ◌<◌}
@@ -38,10 +38,6 @@ next-is book text end c (Err r) e = rw e
 next-is book text end c (Ok p) e = rw (e, starts-at text p)
 
 -- nothing follows a candidate that begins no name
-and-false : (b : Bool) → (b && false) ≡ false
-and-false true = refl
-and-false false = refl
-
 pub next-none : (book : Book) (text : List ℕ) (end : ℕ) (c : List ℕ) (k : Result ℕ Refusal) → skip book.ignores_case text end ≡ k → may_grow book c ≡ false
     → next_of book text end c ≡ behind (λ p. None) k
 unfolding next_of

@@ -4,11 +4,12 @@ use mathlib.Core.Path.{◌≡◌, refl}
 use mathlib.Core.Bool.{Bool, true, false, cond}
 use Rattle.std.specs.Prelude.{Option, Some, None}
 use mathlib.Core.List.{List, [], ◌∷◌}
-use Prim.Native.Nat.{ℕ, zero, suc, ◌+◌, ◌<◌, ◌≤◌}
+use Prim.Native.Nat.{ℕ, suc, ◌+◌, ◌<◌, ◌≤◌}
 use native.Mathlib.Omega.{arith}
 use lib.ListN.{length, get_or}
-use Rattle.rulebook.specs.Book.{Entry, Book, name_at, entries_from, header_of, book_of}
+use Rattle.rulebook.specs.Book.{Entry, Book, header_of, book_of}
 use Rattle.rulebook.specs.Lookup.{comparison, entry_from}
+use Rattle.rulebook.proofs.Laying.{length-entries}
 use Rattle.rulebook.proofs.Appended.{entry_from-below}
 use Rattle.std.specs.Option.{ok_or}
 use Rattle.refusal.specs.declared.Reason.TheVariants.{NoDirective}
@@ -18,20 +19,15 @@ use Rattle.directive.specs.declared.Named.{Named}
 use Rattle.directive.specs.Name.{same_compact, entries_with, only, or_compact, entry_of, latest, or_missing}
 use Rattle.directive.specs.Steps.{Good, Ends}
 
-entries-length : (lead n at : ℕ) (bs : List ℕ) → length (entries_from lead n at bs) ≡ n
-unfolding entries_from
-entries-length lead zero at bs = refl
-entries-length lead (suc n) at bs = rw (entries-length lead n (name_at lead at bs).end bs)
-
 -- the only one of the entries, counted from i
 only_below : (p : List ℕ → Bool) (i k : ℕ) (es : List Entry) → only (entries_with p i es) ≡ Some k → k < i + length es
 unfolding entries_with
-only_below p i k [] h = let z : ◌≡◌ {A = ℕ} 0 1 = cc in absurd (omega arith)
+only_below p i k [] h = cc
 only_below p i k (e ∷ es) h = go (p e.name) (only_below p (suc i) k es) (entries_with p (suc i) es) refl h
   where
     first : (r : List ℕ) → only (i ∷ r) ≡ Some k → k < i + suc (length es)
     first [] h = let q : i ≡ k = cc in omega arith
-    first (j ∷ r) h = let z : ◌≡◌ {A = ℕ} 0 1 = cc in absurd (omega arith)
+    first (j ∷ r) h = cc
 
     go : (b : Bool) → (only (entries_with p (suc i) es) ≡ Some k → k < suc i + length es) → (r : List ℕ) → entries_with p (suc i) es ≡ r
         → only (cond b (i ∷ r) r) ≡ Some k → k < i + suc (length es)
@@ -55,7 +51,7 @@ entry-below book c k h =
 -- "byte 7 directives (1 to 255)"
 pub few-directives : (bs : List ℕ) → get_or bs 7 0 < 256 → length (book_of bs).directives ≤ 255
 unfolding book_of header_of
-few-directives bs h = omega (arith, entries-length 0 (get_or bs 7 0) 9 bs)
+few-directives bs h = omega (arith, length-entries 0 bs (get_or bs 7 0) 9)
 
 -- a name that is remembered
 pub good-latest : (bs c : List ℕ) → get_or bs 7 0 < 256 → (start n end : ℕ) (before : Option Named) → start < end → end ≤ n → Good start n before

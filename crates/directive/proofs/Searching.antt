@@ -1,6 +1,6 @@
 -- One turn of the search for a name, with the candidate in its buffer: it is too long, or what follows it decides. Assumes nothing.
-use Rattle.std.proofs.Common.{ℕ, ◌≡◌, ◌+◌, ◌-◌, ◌<◌, ◌≤◌, refl, sym, ◌∙◌, true, false, Bool, List, [], length, take, drop, get_or, arith}
-use Rattle.std.specs.Prelude.{Option, None, Result}
+use Rattle.std.proofs.Common.{ℕ, ◌≡◌, ◌+◌, ◌-◌, ◌<◌, ◌≤◌, refl, sym, ◌∙◌, true, false, List, [], length, take, drop, get_or, arith}
+use Rattle.std.specs.Prelude.{Option, Some, None, Result, Ok, is_err}
 use Rattle.ascii.specs.Ascii.{is_word}
 use Rattle.ascii.specs.Text.{leading}
 use Rattle.refusal.specs.declared.Refusal.{Refusal}
@@ -8,15 +8,22 @@ use Rattle.lexer.specs.Trivia.{skip, Inside}
 use Rattle.rulebook.specs.Book.{book_of}
 use Rattle.directive.specs.declared.Named.{Named}
 use Rattle.directive.specs.Name.{entry_of, latest, extended, name_from}
+use Rattle.directive.specs.declared.candidate.Full.{Full}
 use Rattle.directive.specs.Steps.{AreBytes, kept_if, fitting, behind, next_of, Ahead, Good}
 use Rattle.directive.proofs.Long.{Spaced, spaced-grown, short-book, entry-long, grows-long, fits-none, fits-some}
 use Rattle.directive.proofs.Naming.{turned, turn, long-turn, word-ahead}
 use Rattle.directive.proofs.Placing.{good-latest}
 
-module _ (bs text : List ℕ) (from start place end : ℕ) (c : List ℕ) (found : Option Named) (fit : AreBytes bs) (word : is_word (get_or text place 0) ≡ true)
-    (ends : end ≡ place + leading is_word (drop place text)) (spaced : Spaced c)
-    (alike : name_from (book_of bs) text from c found 0 place (drop place text) ≡ name_from (book_of bs) text from [] None 0 start (drop start text)) where
-  abbrev pub grown : List ℕ
+-- The search came to a place with a candidate before it and a last name: it gives what it gives from the first word on.
+pub record Searched (bs text : List ℕ) (from start place : ℕ) (c : List ℕ) (found : Option Named) : Type 0 where
+  pub within : (start ≤ place) × (place ≤ length text)
+  pub spaced : Spaced c
+  pub alike : name_from (book_of bs) text from c found 0 place (drop place text) ≡ name_from (book_of bs) text from [] None 0 start (drop start text)
+  pub good : Good start (length text) found
+
+module _ {bs text : List ℕ} {from start place end : ℕ} {c : List ℕ} {found : Option Named} (fit : AreBytes bs) (here : Searched bs text from start place c found)
+    (word : is_word (get_or text place 0) ≡ true) (ends : end ≡ place + leading is_word (drop place text)) where
+  abbrev grown : List ℕ
   grown = extended c (take (end - place) (drop place text))
 
   pub ahead : place < end
@@ -26,29 +33,35 @@ module _ (bs text : List ℕ) (from start place end : ℕ) (c : List ℕ) (found
   spaced-on =
       let s = drop place text in
       let q : end - place ≡ leading is_word s = omega (arith, ends) in
-      rw q (spaced-grown c s spaced (omega (arith, ahead, ends)))
+      rw q (spaced-grown c s here.spaced (omega (arith, ahead, ends)))
 
   -- too long
-  module _ (kept : List ℕ) (b : Bool) (long : b ≡ false) (push : kept_if b kept ≡ fitting grown) where
-    pub long-end : (k : Result ℕ Refusal) → skip (book_of bs).ignores_case text end ≡ k → Inside end (length text) k
-        → turned (book_of bs) text from grown found (behind (λ p. None) k) ≡ name_from (book_of bs) text from [] None 0 start (drop start text)
-    long-end k e i =
-        let l = fits-none kept grown b long push in
-        sym (long-turn (book_of bs) text from c found place end grown word ends refl (entry-long (book_of bs) grown (short-book bs fit) spaced-on l)
-        (grows-long (book_of bs) grown (short-book bs fit) spaced-on l) k e i) ∙ alike
+  pub long-end : (kept : List ℕ) (r : Result (Unit {0}) Full) → is_err r ≡ true → kept_if r kept ≡ fitting grown
+      → (k : Result ℕ Refusal) → skip (book_of bs).ignores_case text end ≡ k → Inside end (length text) k
+      → turned (book_of bs) text from grown found (behind (λ p. None) k) ≡ name_from (book_of bs) text from [] None 0 start (drop start text)
+  long-end kept r long push k e i =
+      let l = fits-none kept grown r long push in
+      sym (long-turn (book_of bs) text from c found place end grown word ends refl (entry-long (book_of bs) grown (short-book bs fit) spaced-on l)
+      (grows-long (book_of bs) grown (short-book bs fit) spaced-on l) k e i) ∙ here.alike
 
   -- kept
-  module _ (kept : List ℕ) (b : Bool) (fits : b ≡ true) (push : kept_if b kept ≡ fitting grown) where
-    pub kept-spaced : Spaced kept
-    kept-spaced = rw (fits-some kept grown b fits push) spaced-on
-
-    pub next-turn : (entry : Option ℕ) → entry ≡ entry_of (book_of bs) kept → (n : Result (Option ℕ) Refusal) → n ≡ next_of (book_of bs) text end kept
-        → Ahead end (length text) n
+  module _ (kept : List ℕ) {entry : Option ℕ} (r : Result (Unit {0}) Full) (fits : is_err r ≡ false) (push : kept_if r kept ≡ fitting grown)
+      (e : entry ≡ entry_of (book_of bs) kept) where
+    pub next-turn : (n : Result (Option ℕ) Refusal) → n ≡ next_of (book_of bs) text end kept → Ahead end (length text) n
         → turned (book_of bs) text from kept (latest entry end found) n ≡ name_from (book_of bs) text from [] None 0 start (drop start text)
-    next-turn entry e n q a =
-        let g = fits-some kept grown b fits push in
-        rw (e, q) (sym (turn (book_of bs) text from c found place end kept word ends g (rw (← q) a)) ∙ alike)
+    next-turn n q a =
+        let g = fits-some kept grown r fits push in
+        rw (e, q) (sym (turn (book_of bs) text from c found place end kept word ends g (rw (← q) a)) ∙ here.alike)
 
-    pub kept-good : start ≤ place → end ≤ length text → (entry : Option ℕ) → entry ≡ entry_of (book_of bs) kept → Good start (length text) found
-        → Good start (length text) (latest entry end found)
-    kept-good l m entry e g = rw e (good-latest bs kept (fit 7) start (length text) end found (omega (arith, ahead)) m g)
+    pub kept-good : end ≤ length text → Good start (length text) (latest entry end found)
+    kept-good m = rw e (good-latest bs kept (fit 7) start (length text) end found (omega (arith, here.within, ahead)) m here.good)
+
+    -- the search goes on at the next word
+    pub searched-on : (p : ℕ) → end ≤ length text → Ok (Some p) ≡ next_of (book_of bs) text end kept → (end ≤ p) × (p ≤ length text)
+        → Searched bs text from start p kept (latest entry end found)
+    searched-on p m q a = record {
+      within = (omega (arith, here.within, ahead, a), a.1);
+      spaced = rw (fits-some kept grown r fits push) spaced-on;
+      alike = next-turn (Ok (Some p)) q a;
+      good = kept-good m;
+    }

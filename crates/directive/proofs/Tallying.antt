@@ -1,9 +1,11 @@
 -- The names that a candidate agrees with, over the list of a book's names: the only one, by where the first stands and whether another follows it; and
 -- any of them. By induction over the names. Assumes nothing.
 use Rattle.std.proofs.Common.{ℕ, suc, ◌+◌, ◌≡◌, refl, Bool, true, false, cond, ◌&&◌, ◌||◌, List, [], ◌∷◌, ◌++◌, map, length, ap, ◌∙◌, arith}
+use lib.ListN.{length-map}
 use Rattle.std.specs.Prelude.{Option, Some, None, is_some}
 use Rattle.std.specs.List.{list_any}
 use Rattle.ascii.specs.Text.{same_by, comparing}
+use Rattle.rulebook.proofs.Finding.{book-case, book-blanks}
 use Rattle.rulebook.specs.declared.Header.{Header}
 use Rattle.rulebook.specs.Book.{Entry, Book, header_of, book_of}
 use Rattle.rulebook.specs.Lookup.{comparison, entry_from}
@@ -13,8 +15,7 @@ abbrev pub names_of : List Entry → List (List ℕ)
 names_of es = map (λ e. e.name) es
 
 pub length-names : (es : List Entry) → length (names_of es) ≡ length es
-length-names [] = refl
-length-names (e ∷ es) = rw (length-names es)
+length-names es = length-map es (λ e. e.name)
 
 module _ (p : List ℕ → Bool) where
   -- the places of the names with the property, counted from i
@@ -111,7 +112,7 @@ module _ (book : Book) (c : List ℕ) (r : Option ℕ) (e : r ≡ entry_from (co
       go (Some i) h q = cc
       go None h q = rw (← q, b)
 
-pub grow-any : (book : Book) (c : List ℕ) (b o : Bool) → book.ignores_case ≡ b → book.optional_blanks ≡ o
+grow-any : (book : Book) (c : List ℕ) (b o : Bool) → book.ignores_case ≡ b → book.optional_blanks ≡ o
     → may_grow book c
     ≡ (list_any (λ n. head_from (same_by (comparing b)) [] n c) (names_of book.directives)
     || (o && list_any (λ n. head_from same_compact [] n c) (names_of book.directives)))
@@ -119,12 +120,9 @@ unfolding may_grow
 grow-any book c b o e f =
     rw (any_head (same_by (comparison book)) c book.directives, any_head same_compact c book.directives, e, f)
 
--- what a header says is what its book says
-module _ (header : Header) (bs : List ℕ) (e : header ≡ header_of bs) where
-  pub case-of : (book_of bs).ignores_case ≡ header.ignores_case
-  unfolding book_of
-  case-of = rw e
-
-  pub blanks-of : (book_of bs).optional_blanks ≡ header.optional_blanks
-  unfolding book_of
-  blanks-of = rw e
+-- the same by what a header says of its book
+pub grow-by : (bs : List ℕ) (h : Header) → h ≡ header_of bs → (c : List ℕ)
+    → may_grow (book_of bs) c
+    ≡ (list_any (λ n. head_from (same_by (comparing h.ignores_case)) [] n c) (names_of (book_of bs).directives)
+    || (h.optional_blanks && list_any (λ n. head_from same_compact [] n c) (names_of (book_of bs).directives)))
+grow-by bs h e c = grow-any (book_of bs) c h.ignores_case h.optional_blanks (book-case bs h e) (book-blanks bs h e)

@@ -7,6 +7,7 @@ use Rattle.refusal.specs.declared.Refusal.{Refusal}
 use Rattle.lexer.specs.Trivia.{skip}
 use Rattle.rulebook.specs.Book.{Book}
 use Rattle.directive.specs.declared.Comparison.{Comparison}
+use Rattle.directive.specs.declared.candidate.Full.{Full}
 use Rattle.directive.specs.declared.DirectiveName.{DirectiveName}
 use Rattle.directive.specs.declared.Named.{Named}
 use Rattle.directive.specs.Name.{same_compact, head_from, may_grow, starts_word}
@@ -38,9 +39,9 @@ abbrev pub fitting : List ℕ → Option (List ℕ)
 fitting c = cond (leb (length c) 512) (Some c) None
 
 -- the candidate that is kept, if it fits
-abbrev pub kept_if : Bool → List ℕ → Option (List ℕ)
-kept_if true c = Some c
-kept_if false c = None
+abbrev pub kept_if : Result (Unit {0}) Full → List ℕ → Option (List ℕ)
+kept_if (Ok done) c = Some c
+kept_if (Err full) c = None
 
 -- what follows a word that ends at a place: trivia first, then another word that may belong to the name, or nothing that does
 abbrev pub behind : (ℕ → Option ℕ) → Result ℕ Refusal → Result (Option ℕ) Refusal

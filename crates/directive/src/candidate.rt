@@ -7,12 +7,16 @@ use std::marker::Model;
 
 // The most bytes that a candidate has. A longer one is no name and begins none: a name's length is one byte, and at least every second byte of a candidate
 // is of a word.
-const MAX_LENGTH: usize = 512;
+const ROOM: usize = 512;
+
+// A word more would not fit.
+#[derive(Clone, Copy, Debug, PartialEq, Eq)]
+pub struct Full;
 
 // A buffer with its length, for there is no heap.
 #[derive(Drop)]
 pub struct Candidate {
-    bytes: [u8; 512],
+    bytes: [u8; ROOM],
     len: usize,
 }
 
@@ -29,7 +33,7 @@ impl Candidate {
         ensures { result ≡ [] }
     {
         Candidate {
-            bytes: [0; 512],
+            bytes: [0; ROOM],
             len: 0,
         }
     }
@@ -40,23 +44,26 @@ impl Candidate {
         &self.bytes[..self.len]
     }
 
-    // Whether some bytes more fit; if so they are added.
-    fn push(&mut self, more: &[u8]) -> bool
+    // Some bytes more, if they fit.
+    fn push(&mut self, more: &[u8]) -> Result<(), Full>
         ensures { kept_if result self.new ≡ fitting (self.old ++ more.now) }
     {
-        if more.len() > MAX_LENGTH - self.len {
-            return false;
+        if more.len() > ROOM - self.len {
+            return Err(Full);
         }
         let end = self.len + more.len();
         self.bytes[self.len..end].copy_from_slice(more);
         self.len = end;
-        true
+        Ok(())
     }
 
-    // Whether one word more fits, behind a blank if it is not the first. If it doesn't, the candidate is not to be read.
-    pub fn push_word(&mut self, word: &[u8]) -> bool
+    // One word more, behind a blank if it is not the first. If it does not fit, the candidate is not to be read.
+    pub fn push_word(&mut self, word: &[u8]) -> Result<(), Full>
         ensures { kept_if result self.new ≡ fitting (extended self.old word.now) }
     {
-        (self.len == 0 || self.push(b" ")) && self.push(word)
+        if self.len != 0 {
+            self.push(b" ")?;
+        }
+        self.push(word)
     }
 }

@@ -78,13 +78,12 @@ fn search(book: &CheckedBook, text: &[u8], from: usize, start: usize) -> Result<
     ensures result_value { told result ≡ name_from (book_of book.now.bytes.now) text.now from [] None 0 start (drop start text.now) }
     ensures ends { Ends from start (length text.now) result }
 {
-    names::fit(book.bytes);
     let mut candidate = Candidate::new();
     let mut found = None;
     let mut place = start;
     while starts_word(text, place) {
         let end = run_end::<Word>(text, place);
-        if !candidate.push_word(&text[place..end]) {
+        if candidate.push_word(&text[place..end]).is_err() {
             // it is no name and begins none, but trivia is passed before anything is decided
             skip(text, end, book.header.ignores_case)?;
             break;

@@ -3,7 +3,7 @@ ghost use Rattle.std.specs.Prelude.{◌≡◌, ◌≤◌, length, map};
 ghost use Rattle.std.specs.List.{list_any};
 ghost use Rattle.rulebook.specs.Book.{book_of};
 ghost use Rattle.directive.specs.Name.{entries_with, only, entry_of, may_grow};
-ghost use Rattle.directive.specs.Steps.{AreBytes, solid_from, agrees_in};
+ghost use Rattle.directive.specs.Steps.{solid_from, agrees_in};
 
 use crate::Comparison;
 use ascii::class::is_space;
@@ -24,11 +24,6 @@ fn solid_from(text: &[u8], at: usize, compact: bool) -> usize
     }
 }
 
-// A byte is below 256. The type says so of a slice that a function is lent, and this hands it on for one that a struct holds.
-pub fn fit(bytes: &[u8])
-    ensures { AreBytes bytes.now }
-{}
-
 // Whether a candidate agrees with a name: byte by byte through the name, with the next byte of the candidate that counts.
 fn agrees(name: &[u8], candidate: &[u8], how: Comparison) -> bool
     ensures { result ≡ agrees_in how name.now candidate.now }
@@ -38,7 +33,7 @@ fn agrees(name: &[u8], candidate: &[u8], how: Comparison) -> bool
     let mut j = solid_from(candidate, 0, how.compact);
     for x in name {
         let used = j == candidate.len();
-        if how.heads & ((*x == 32) & used) {
+        if how.heads & ((*x == b' ') & used) {
             return true;
         }
         if how.compact & is_space(*x) {
@@ -56,7 +51,6 @@ fn agrees(name: &[u8], candidate: &[u8], how: Comparison) -> bool
 fn only_agreeing(book: &CheckedBook, candidate: &[u8], how: Comparison) -> Option<usize>
     ensures { result ≡ only (entries_with (λ n. agrees_in how n candidate.now) 0 (book_of book.now.bytes.now).directives) }
 {
-    fit(book.bytes);
     let mut names = book.directive_names();
     let first = names.position(|name| agrees(name, candidate, how))?;
     let again = names.any(|name| agrees(name, candidate, how));

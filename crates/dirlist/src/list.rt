@@ -5,6 +5,7 @@ use reader::Reading;
 use refusal::Refusal;
 use std::io;
 
+// The map has each place that is printed; 0 stands for one that it had not, and no Option: the listing has a number in each column.
 fn physical(map: &[u16], place: impl Into<usize>) -> usize {
     map.get(place.into()).copied().map_or(0, usize::from)
 }
@@ -38,7 +39,8 @@ pub fn reading(
     println!(rt; "rest {}", physical(map, read.rest))
 }
 
-// From 7 on a refusal's place is one of the joined text. The refusal zeroed the map, so the line is joined again.
+// From 7 on, by the table's numbers, a refusal's place is one of the joined text. The refusal zeroed the map, so the line is joined again. The
+// reasons that come before 7 are a range of the table's numbers; to name them would be no plainer.
 fn place_of(refused: Refusal, line: &[u8], text: &mut [u8], map: &mut [u16]) -> usize {
     if u8::from(refused.reason) < 7 {
         return refused.place;

@@ -1,11 +1,16 @@
 -- Continuations of a physical line, and the sentinels of Fortran.
-use Rattle.std.specs.Prelude.{ℕ, ◌+◌, ◌≤◌, max, Bool, false, cond, not, ◌&&◌, ◌||◌, ◌≡◌, List, length, drop, get_or, eqb, ltb}
+use Rattle.std.specs.Prelude.{ℕ, zero, suc, ◌+◌, ◌≤◌, max, Bool, false, cond, not, ◌&&◌, ◌||◌, ◌≡◌, List, length, drop, get_or, eqb, ltb, Option, None, Some}
 use Rattle.ascii.specs.Ascii.{is_blank, is_eol, fold}
 use Rattle.ascii.specs.Text.{bytes, starts, leading, begins}
 use Rattle.lexer.specs.declared.Language.{Language}
 use Rattle.lexer.specs.declared.Language.TheVariants.{C, FortranFree, FortranFixed}
 use Rattle.lexer.specs.declared.Prefix.{Prefix}
 use Rattle.lexer.specs.declared.Prefix.TheVariants.{Omp, Acc}
+
+-- a number of bytes as the code answers with it: nothing for 0, where what the number is of is absent
+abbrev pub if_any : ℕ → Option ℕ
+if_any zero = None
+if_any (suc n) = Some (suc n)
 
 -- "prefix `omp` or `acc`"
 abbrev pub prefix_bytes : Prefix → List ℕ

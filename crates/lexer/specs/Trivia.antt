@@ -1,11 +1,12 @@
 -- Trivia: white space, continuations and comments between words (`skip_language_trivia`).
-use Rattle.std.specs.Prelude.{ℕ, zero, suc, ◌+◌, ◌≤◌, Bool, true, false, cond, ◌&&◌, List, [], ◌∷◌, drop, get_or, eqb, ltb, Option, Some, None, Result, Ok, Err}
+use Rattle.std.specs.Prelude.{ℕ, zero, suc, ◌+◌, ◌<◌, ◌≤◌, Bool, true, false, cond, ◌&&◌, List, [], ◌∷◌, ◌≡◌, drop, get_or, eqb, ltb, Option, Some, None, Result, Ok, Err}
 use Rattle.ascii.specs.Ascii.{is_space}
 use Rattle.ascii.specs.Text.{up_to}
 use Rattle.code.specs.Code.{block_end, more}
 use Rattle.refusal.specs.declared.Reason.TheVariants.{UnclosedComment}
 use Rattle.refusal.specs.declared.Refusal.{Refusal}
 use Rattle.refusal.specs.Verdict.{refusal_at}
+use Rattle.lexer.specs.declared.trivia.NoEnd.{NoEnd}
 use Rattle.lexer.specs.Continuation.{break_c, break_f}
 
 abbrev pub is_line_feed : ℕ → Bool
@@ -51,7 +52,13 @@ abbrev pub Inside : ℕ → ℕ → Result ℕ Refusal → Type 0
 Inside at n (Ok p) = (at ≤ p) × (p ≤ n)
 Inside at n (Err r) = (at ≤ r.place) × (r.place ≤ n)
 
--- trivia does not reach past the n bytes of its text
-abbrev pub Fits : ℕ → Option ℕ → Type 0
-Fits n (Some k) = k ≤ n
-Fits n None = Unit {0}
+-- trivia of a text as the code answers with it: nothing where there is none, and an error where a comment has no end
+abbrev pub Stretch : Option ℕ → Result (Option ℕ) NoEnd → Type 0
+Stretch t (Ok o) = t ≡ Some (elim o [ None ↦ 0 | Some n ↦ n ])
+Stretch t (Err e) = t ≡ None
+
+-- trivia that there is has a byte at least, and does not reach past the n bytes of its text
+abbrev pub Fits : ℕ → Result (Option ℕ) NoEnd → Type 0
+Fits n (Ok (Some k)) = (0 < k) × (k ≤ n)
+Fits n (Ok None) = Unit {0}
+Fits n (Err e) = Unit {0}

@@ -1,8 +1,8 @@
 // Continuations of a physical line: the break of C, and Fortran's `&` with what goes of the next line. A function of the rest of a text answers with how
-// many of its first bytes are meant: 0 where there is none, a number that the callers add as it is.
-ghost use Rattle.std.specs.Prelude.{◌≡◌, true, ◌+◌, ◌≤◌, length, drop};
+// many of its first bytes are meant: nothing where what it seeks is absent, or 0 where each caller adds the number as it is.
+ghost use Rattle.std.specs.Prelude.{◌≡◌, true, ◌+◌, ◌≤◌, length, drop, get_or, IfSome};
 ghost use Rattle.ascii.specs.Text.{begins, comparing};
-ghost use Rattle.lexer.specs.Continuation.{prefix_bytes, break_c, marked, sentinel as sentinel_of, opening_sentinel, is_boundary, sentinel_ended, sentinel_any, eol as eol_of, comment_f, marker as marker_of, lead as lead_of, break_f, Unended};
+ghost use Rattle.lexer.specs.Continuation.{if_any, prefix_bytes, break_c, marked, sentinel as sentinel_of, opening_sentinel, is_boundary, sentinel_ended, sentinel_any, eol as eol_of, comment_f, marker as marker_of, lead as lead_of, break_f, Unended};
 
 use super::{Dialect, Language, Prefix};
 use ascii::class::fold;
@@ -10,14 +10,14 @@ use ascii::sets::{Blank, InLine};
 
 // The break of C: a backslash with LF or CR LF.
 #[tactic(auto, unfolding(crate::specs::Continuation::break_c))]
-pub fn break_c(rest: &[u8]) -> usize
-    ensures value { result ≡ break_c rest.now }
-    ensures within { result ≤ length rest.now }
+pub fn break_c(rest: &[u8]) -> Option<usize>
+    ensures value { result ≡ if_any (break_c rest.now) }
+    ensures within { IfSome result (λ n. n ≤ length rest.now) }
 {
     match rest {
-        [b'\\', b'\n', ..] => 2,
-        [b'\\', b'\r', b'\n', ..] => 3,
-        _ => 0,
+        [b'\\', b'\n', ..] => Some(2),
+        [b'\\', b'\r', b'\n', ..] => Some(3),
+        _ => None,
     }
 }
 
@@ -40,28 +40,28 @@ fn is_marked(rest: &[u8]) -> bool
 
 // The sentinel, with the prefix or alone.
 #[tactic(auto, unfolding(crate::specs::Continuation::sentinel))]
-pub fn sentinel(rest: &[u8], prefix: Prefix) -> usize
-    ensures value { result ≡ sentinel_of prefix rest.now }
-    ensures within { result ≤ length rest.now }
+pub fn sentinel(rest: &[u8], prefix: Prefix) -> Option<usize>
+    ensures value { result ≡ if_any (sentinel_of prefix rest.now) }
+    ensures within { IfSome result (λ n. n ≤ length rest.now) }
 {
     if !is_marked(rest) {
-        return 0;
+        return None;
     }
     if prefix_at(&rest[2..], prefix, true) {
-        5
+        Some(5)
     } else {
-        2
+        Some(2)
     }
 }
 
 // The sentinel that a line begins with, in its language.
-pub fn opening_sentinel(rest: &[u8], dialect: Dialect) -> usize
-    ensures value { result ≡ opening_sentinel dialect.language dialect.prefix rest.now }
-    ensures within { result ≤ length rest.now }
+pub fn opening_sentinel(rest: &[u8], dialect: Dialect) -> Option<usize>
+    ensures value { result ≡ if_any (opening_sentinel dialect.language dialect.prefix rest.now) }
+    ensures within { IfSome result (λ n. n ≤ length rest.now) }
 {
     match dialect.language {
-        Language::C => 0,
-        Language::FortranFree if !matches!(rest, [b'!', ..]) => 0,
+        Language::C => None,
+        Language::FortranFree if !matches!(rest, [b'!', ..]) => None,
         Language::FortranFree | Language::FortranFixed => sentinel(rest, dialect.prefix),
     }
 }
@@ -75,39 +75,47 @@ fn is_boundary(rest: &[u8]) -> bool
 
 // The sentinel, if a boundary follows it.
 #[tactic(auto, unfolding(crate::specs::Continuation::sentinel_ended))]
-pub fn sentinel_ended(rest: &[u8], prefix: Prefix) -> usize
-    ensures value { result ≡ sentinel_ended prefix rest.now }
-    ensures within { result ≤ length rest.now }
+pub fn sentinel_ended(rest: &[u8], prefix: Prefix) -> Option<usize>
+    ensures value { result ≡ if_any (sentinel_ended prefix rest.now) }
+    ensures within { IfSome result (λ n. n ≤ length rest.now) }
 {
-    let n = sentinel(rest, prefix);
-    if is_boundary(&rest[n..]) { n } else { 0 }
+    let n = sentinel(rest, prefix)?;
+    if is_boundary(&rest[n..]) {
+        Some(n)
+    } else {
+        None
+    }
 }
 
-// The sentinel of either prefix.
+// The sentinel of either prefix, the longer.
 #[tactic(auto, unfolding(crate::specs::Continuation::sentinel_any))]
-pub fn sentinel_any(rest: &[u8]) -> usize
-    ensures value { result ≡ sentinel_any rest.now }
-    ensures within { result ≤ length rest.now }
+pub fn sentinel_any(rest: &[u8]) -> Option<usize>
+    ensures value { result ≡ if_any (sentinel_any rest.now) }
+    ensures within { IfSome result (λ n. n ≤ length rest.now) }
 {
-    let omp = sentinel_ended(rest, Prefix::Omp);
-    let acc = sentinel_ended(rest, Prefix::Acc);
-    omp.max(acc)
+    match (
+        sentinel_ended(rest, Prefix::Omp),
+        sentinel_ended(rest, Prefix::Acc),
+    ) {
+        (Some(omp), Some(acc)) => Some(omp.max(acc)),
+        (omp, acc) => omp.or(acc),
+    }
 }
 
 // The end of line: LF, CR LF or a lone CR.
 #[tactic(auto, unfolding(crate::specs::Continuation::eol))]
-fn eol(rest: &[u8]) -> usize
-    ensures value { result ≡ eol_of rest.now }
-    ensures within { result ≤ length rest.now }
+fn eol(rest: &[u8]) -> Option<usize>
+    ensures value { result ≡ if_any (eol_of rest.now) }
+    ensures within { IfSome result (λ n. n ≤ length rest.now) }
 {
     match rest {
-        [b'\r', b'\n', ..] => 2,
-        [b'\n' | b'\r', ..] => 1,
-        _ => 0,
+        [b'\r', b'\n', ..] => Some(2),
+        [b'\n' | b'\r', ..] => Some(1),
+        _ => None,
     }
 }
 
-// The comment of Fortran, without its end of line.
+// The comment of Fortran, without its end of line: 0 bytes where there is none, which callers add.
 #[tactic(auto, unfolding(crate::specs::Continuation::comment_f))]
 fn comment_f(rest: &[u8]) -> usize
     ensures value { result ≡ comment_f rest.now }
@@ -119,7 +127,7 @@ fn comment_f(rest: &[u8]) -> usize
     }
 }
 
-// Blanks with `&` behind them.
+// Blanks with `&` behind them: 0 bytes where there are none, which callers add.
 #[tactic(auto, unfolding(crate::specs::Continuation::marker))]
 fn marker(rest: &[u8]) -> usize
     ensures value { result ≡ marker_of rest.now }
@@ -132,38 +140,46 @@ fn marker(rest: &[u8]) -> usize
     }
 }
 
-// What goes at the start of a line that continues another: indentation, sentinel and leading `&`.
+// What goes at the start of a line that continues another: indentation, sentinel and leading `&`, 0 bytes or more, which callers add.
 #[tactic(auto, unfolding(crate::specs::Continuation::lead))]
 fn lead(rest: &[u8]) -> usize
     ensures value { result ≡ lead_of rest.now }
     ensures within { result ≤ length rest.now }
 {
     let indented = ascii::run_end::<Blank>(rest, 0);
-    let n = sentinel_any(&rest[indented..]);
-    if n == 0 {
-        return marker(rest);
+    match sentinel_any(&rest[indented..]) {
+        Some(n) => {
+            let end = indented + n;
+            end + marker(&rest[end..])
+        }
+        None => marker(rest),
     }
-    let end = indented + n;
-    end + marker(&rest[end..])
 }
 
-// The continuation of Fortran.
+// The continuation of Fortran of a text that begins with `&`.
+#[inline(never)]
 #[tactic(auto, unfolding(crate::specs::Continuation::break_f))]
-pub fn break_f(rest: &[u8]) -> usize
-    ensures value { result ≡ break_f rest.now }
-    ensures within { result ≤ length rest.now }
+fn marked_break(rest: &[u8]) -> Option<usize>
+    requires { (1 ≤ length rest.now) × (get_or rest.now 0 0 ≡ 38) }
+    ensures value { result ≡ if_any (break_f rest.now) }
+    ensures within { IfSome result (λ n. n ≤ length rest.now) }
 {
-    let [b'&', ..] = rest else {
-        return 0;
-    };
     let blanks = ascii::run_end::<Blank>(rest, 1);
     let stop = blanks + comment_f(&rest[blanks..]);
-    let n = eol(&rest[stop..]);
-    if n == 0 {
-        return 0;
+    let next = stop + eol(&rest[stop..])?;
+    Some(next + lead(&rest[next..]))
+}
+
+// The continuation of Fortran. Apart from what follows an `&`, so that the compiler draws this question into the loops that ask it of each byte.
+#[tactic(auto, unfolding(crate::specs::Continuation::break_f))]
+pub fn break_f(rest: &[u8]) -> Option<usize>
+    ensures value { result ≡ if_any (break_f rest.now) }
+    ensures within { IfSome result (λ n. n ≤ length rest.now) }
+{
+    match rest {
+        [b'&', ..] => marked_break(rest),
+        _ => None,
     }
-    let next = stop + n;
-    next + lead(&rest[next..])
 }
 
 // A text and a place from which on no line ends, so that no continuation begins from there on: the comments behind a row of `&` are not walked to the end of
@@ -180,11 +196,10 @@ impl<'a> Lines<'a> {
     pub fn sought(text: &'a [u8]) -> Lines<'a>
         ensures { result.text.now ≡ text.now }
     {
-        let ends = match text.iter().rposition(|b| ascii::class::is_eol(*b)) {
-            Some(i) => i + 1,
-            None => 0,
-        };
-        Lines { text, ends }
+        Lines {
+            text,
+            ends: ascii::run_start::<InLine>(text),
+        }
     }
 
     // The place is the text's end, which is such a place too, so that no state says whether it was sought.
@@ -207,13 +222,13 @@ impl<'a> Lines<'a> {
     }
 
     // The continuation of Fortran at a place.
-    pub fn break_f(&self, at: usize) -> usize
+    pub fn break_f(&self, at: usize) -> Option<usize>
         requires { at ≤ length self.now.text.now }
-        ensures value { result ≡ break_f (drop at self.now.text.now) }
-        ensures within { at + result ≤ length self.now.text.now }
+        ensures value { result ≡ if_any (break_f (drop at self.now.text.now)) }
+        ensures within { IfSome result (λ n. at + n ≤ length self.now.text.now) }
     {
         if self.ends <= at {
-            return 0;
+            return None;
         }
         break_f(&self.text[at..])
     }

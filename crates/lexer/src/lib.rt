@@ -26,7 +26,7 @@ pub enum Prefix {
     Acc,
 }
 
-// A language, and the prefix of the directives that are read in it.
+// A language, and the prefix of the directives that are read in it. No line is in it: a call is lent one, and its steps go on with what is joined of that.
 #[derive(Clone, Copy, Debug, PartialEq, Eq)]
 pub struct Dialect {
     pub language: Language,

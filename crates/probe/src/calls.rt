@@ -33,7 +33,7 @@ pub fn call_of<'s>(words: &[&[u8]], spelled: &'s mut Spelled) -> Option<Call<'s>
 }
 
 impl Call<'_> {
-    // Makes the call, and writes its answer.
+    // Makes the call, and writes its answer. A match and no `dyn`: a method over `impl Write` has none.
     pub fn answer(self, lent: &mut Lent, out: &mut impl Write) -> io::Result<()> {
         match self {
             Call::Trim(request) => request.answer(out),

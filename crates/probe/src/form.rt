@@ -9,6 +9,7 @@ pub struct Form {
     pub map: Count<20000>,
 }
 
+// No `TryFrom`, here and for the words below and of a split: both types are of crates below.
 pub fn language(word: &[u8]) -> Option<Language> {
     match word {
         b"c" => Some(Language::C),

@@ -21,13 +21,13 @@ use std::io;
 use std::io::{BufRead, BufReader, BufWriter, Read, Stdin, Stdout, Write};
 use work::{Lent, Spelled};
 
-// A request of so many bytes, its line's end apart, is too long.
+// A request of so many bytes, its line's end apart, is too long. The length alone says so: a kind beside it would say the same again.
 const TOO_LONG: usize = 262144;
 
 // The words of the longest request; one more tells that there are too many.
 const MOST_WORDS: usize = 8;
 
-// Reads the next request, of one that is too long its first bytes; false where there is none.
+// Reads the next request, of one that is too long its first bytes, into a buffer that is kept for all requests; false where there is none.
 fn next_request(input: &mut impl BufRead, line: &mut Vec<u8>) -> io::Result<bool> {
     line.clear();
     input

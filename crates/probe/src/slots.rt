@@ -69,6 +69,7 @@ pub struct Slots<'w, T>(pub &'w [T]);
 impl<T: Slot> Display for Slots<'_, T> {
     fn fmt<W: fmt::Write>(&self, f: &mut Formatter<W>) -> fmt::Result {
         let slots = self.0;
+        // `run_start` is of bytes and a set, these are slots of any kind
         let used = match slots.iter().rposition(|slot| *slot != T::default()) {
             Some(last) => last + 1,
             None => 0,

@@ -22,7 +22,7 @@ pub fn flag(word: &[u8]) -> Option<bool> {
     }
 }
 
-// What a lower-case hexadecimal digit stands for.
+// What a lower-case hexadecimal digit stands for; the library's `to_digit` takes upper case too.
 fn hex_digit(b: u8) -> Option<u8>
     ensures { IfSome result (λ d. d < 16) }
 {

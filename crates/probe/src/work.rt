@@ -1,4 +1,4 @@
-// The memory that the requests share.
+// The memory that the requests share: arrays, so that a `Count<N>` bounds what is lent of them.
 
 // What the words of a request spell: the bytes of two words, and the numbers of one.
 #[derive(Drop)]

@@ -1,17 +1,16 @@
 -- Line breaks in a C text change neither the reading nor the text and records that the whole line leaves, and join alone gives the breaks' map.
 -- Whatever a text is woven with, rows 1 to 6 find nothing and the joined text is the text. Assumes nothing.
-use Prim.Native.Nat.{ℕ, suc, ◌≤◌, ◌<◌}
+use Prim.Native.Nat.{ℕ, ◌≤◌, ◌<◌}
 use native.Mathlib.Omega.{arith}
 use mathlib.Core.Bool.{cond}
 use mathlib.Core.Path.{◌≡◌}
 use mathlib.Core.List.{List}
 use lib.ListN.{length}
-use borrow.Author.Tests.{le-ltb}
 use Rattle.refusal.specs.Answer.{refused, unless_fault, max_length}
 use Rattle.lexer.specs.declared.Language.TheVariants.{C}
 use Rattle.lexer.specs.declared.Prefix.{Prefix}
 use Rattle.validation.specs.Validation.{fault}
-use Rattle.source.proofs.Woven.{Woven, fits, low, no-fault, woven-joined}
+use Rattle.source.proofs.Woven.{Woven, fits, no-fault, woven-joined, woven-admitted}
 use Rattle.source.proofs.BreakLaw.{woven-text, woven-broken, breaks-keep-text}
 use Rattle.rulebook.specs.Book.{book_of}
 use Rattle.rulebook.specs.Check.{book_fault}
@@ -26,14 +25,7 @@ woven-answer : (p : Prefix) (book : List ℕ) (text_slots map_slots record_slots
     ≡ unless_fault 4 (book_fault book) (cond (suits C (book_of book)) (parsed (book_of book) C p record_slots t) (refused 5 0))
 unfolding line_answer fault
 woven-answer p book text_slots map_slots record_slots {t} {xs} w short-enough text-fits map-fits =
-    rw (
-      le-ltb max_length (length xs) short-enough,
-      low 0 w,
-      le-ltb text_slots (length xs) text-fits,
-      le-ltb map_slots (suc (length xs)) map-fits,
-      no-fault p xs 0 0 (t, w),
-      woven-joined w,
-    )
+    rw (woven-admitted text_slots map_slots w short-enough text-fits map-fits _, no-fault p xs 0 0 (t, w), woven-joined w)
 
 pub breaks-change-nothing : BreaksChangeNothing
 unfolding line_within

@@ -1,10 +1,7 @@
 -- The whole line, once its head is read, its clauses are in their slots and text and map are zeroed behind what stands: all of it is what the definition
 -- gives; and what is left of a refusal. By cases of what the clauses gave. Assumes nothing.
-use Rattle.std.proofs.Common.{ℕ, ◌≡◌, ◌+◌, ◌-◌, ◌≤◌, refl, sym, ap, ◌∙◌, List, [], ◌++◌, length, take, replicate, append-nil, arith}
+use Rattle.std.proofs.Common.{ℕ, ◌≡◌, ◌+◌, ◌-◌, ◌≤◌, refl, sym, ap, ◌∙◌, List, ◌++◌, length, take, replicate, arith}
 use Rattle.std.specs.Prelude.{Result, Ok, Err, is_err, true}
-use borrow.Rule.Slice.PartMut.{put_mid, post_of}
-use lib.Seq.{drop-drop}
-use lib.ListN.{drop_of_length-le}
 use Rattle.ascii.specs.Text.{padded}
 use Rattle.ascii.proofs.Slots.{padded-take}
 use Rattle.refusal.specs.Table.{number_of}
@@ -16,11 +13,10 @@ use Rattle.lexer.specs.declared.Prefix.{Prefix}
 use Rattle.source.specs.Joining.{joined_text, joined_map}
 use Rattle.clause.specs.declared.ClauseRecord.{ClauseRecord}
 use Rattle.clause.specs.declared.SequenceEnd.{SequenceEnd}
-use Rattle.clause.specs.declared.SequenceState.{SequenceState}
 use Rattle.clause.specs.Clause.{zero_record}
 use Rattle.clause.specs.Sequence.{Sequence}
 use Rattle.clause.specs.Calls.{SequenceCall, counted}
-use Rattle.clause.specs.Steps.{Started, read_on, settled}
+use Rattle.clause.specs.Steps.{read_on, settled}
 use Rattle.directive.specs.declared.DirectiveName.{DirectiveName}
 use Rattle.reader.specs.declared.heading.Head.{Head}
 use Rattle.reader.specs.declared.Reading.{Reading}
@@ -52,17 +48,6 @@ record-slots : (size : ℕ) (name : DirectiveName) (x : Answer Sequence)
     → slots zero_record size (λ s. s.clauses) x ≡ slots zero_record size (λ (p : Parsed). p.sequence.clauses) (behind name x)
 record-slots size name (given s) = refl
 record-slots size name (refused n p) = refl
-
--- slots of which all but the first n are filled with zeros
-pub zeros-behind : (t ys : List ℕ) (n : ℕ) → n ≤ length t → ys ≡ replicate (length t - n) 0 → put_mid n (length t - n) t ys ≡ take n t ++ replicate (length t - n) 0
-zeros-behind t ys n h e =
-    let m : n + (length t - n) ≡ length t = omega arith in
-    let none : post_of n (length t - n) t ≡ [] = drop-drop (length t - n) n t ∙ rw m (drop_of_length-le t (omega arith)) in
-    rw (none, append-nil, e)
-
--- the start for more slots
-pub started-for : (bk t : List ℕ) (room size : ℕ) (s : SequenceState) → room ≤ size → Started bk t room s → Started bk t size s
-started-for bk t room size s h k = record { proper = k.proper; room = omega (arith, k.room); none_yet = k.none_yet }
 
 module _ (l : Language) (p : Prefix) (bk line : List ℕ) (room : ℕ) where
   pub within-refused : (ts ms size : ℕ) (r : Refusal) → line_answer l p bk line ts ms room ≡ refused_by r

@@ -1,15 +1,15 @@
 -- The whole line by steps: the checks before it is joined, what stands once the name is read, and what is left once the clauses are.
 use Rattle.std.specs.Prelude.{ℕ, ◌+◌, ◌≤◌, ◌<◌, Bool, cond, not, ◌≡◌, List, length, take, Result, Ok, Err}
-use Rattle.refusal.specs.declared.Reason.TheVariants.{ShortBuffer, WrongLanguage, InvalidLine}
+use Rattle.refusal.specs.declared.Reason.TheVariants.{WrongLanguage}
 use Rattle.refusal.specs.declared.Refusal.{Refusal}
 use Rattle.refusal.specs.Answer.{Answer, given, refused_by, and_then}
-use Rattle.refusal.specs.Verdict.{Verdict, fine, refusal_at, fault_by, and_check, text_verdict}
+use Rattle.refusal.specs.Verdict.{Verdict, refusal_at}
 use Rattle.lexer.specs.declared.Language.{Language}
 use Rattle.lexer.specs.declared.Language.TheVariants.{C, FortranFree, FortranFixed}
 use Rattle.lexer.specs.declared.Prefix.{Prefix}
 use Rattle.validation.specs.Validation.{fault}
 use Rattle.source.specs.Joining.{joined_text, joined_map}
-use Rattle.source.specs.Calls.{is_short}
+use Rattle.source.specs.Verdicts.{lines_verdict}
 use Rattle.clause.specs.declared.ClauseRecord.{ClauseRecord}
 use Rattle.clause.specs.declared.SequenceEnd.{SequenceEnd}
 use Rattle.clause.specs.Sequence.{Sequence}
@@ -20,12 +20,6 @@ use Rattle.reader.specs.declared.Reading.{Reading}
 use Rattle.reader.specs.Line.{Parsed, line_answer}
 use Rattle.reader.specs.Calls.{LineCall}
 
--- rows 1 to 3
-unfoldable pub call_verdict : List ℕ → ℕ → ℕ → Verdict
-unfolding text_verdict
-call_verdict line text_slots map_slots =
-    and_check (text_verdict line) (cond (is_short line text_slots map_slots) (Err (refusal_at ShortBuffer 0)) fine)
-
 -- "Language C needs bit 0 clear, the Fortrans need it set."
 abbrev pub suited : Language → Bool → Bool
 suited C ignores_case = not ignores_case
@@ -35,7 +29,7 @@ suited FortranFixed ignores_case = ignores_case
 -- rows 5 and 6
 unfoldable pub line_verdict : Language → Prefix → Bool → List ℕ → Verdict
 unfolding fault
-line_verdict l p ignores_case line = cond (suited l ignores_case) (fault_by InvalidLine (fault l p line)) (Err (refusal_at WrongLanguage 0))
+line_verdict l p ignores_case line = cond (suited l ignores_case) (lines_verdict l p line) (Err (refusal_at WrongLanguage 0))
 
 -- the clauses that are read behind a name
 abbrev pub behind : DirectiveName → Answer Sequence → Answer Parsed

@@ -1,20 +1,9 @@
-// The checks before a line is joined: refusals 1 to 3, 5 and 6.
+// The checks of a line under its book: refusals 5 and 6.
 ghost use Rattle.std.specs.Prelude.{◌≡◌};
-ghost use Rattle.reader.specs.Steps.{call_verdict, suited, line_verdict};
+ghost use Rattle.reader.specs.Steps.{suited, line_verdict};
 
 use lexer::{Dialect, Language};
 use refusal::{Reason, Refusal};
-
-// The line's length and bytes, and the buffers.
-pub(crate) fn check_fit(line: &[u8], text_slots: usize, map_slots: usize) -> Result<(), Refusal>
-    ensures { result ≡ call_verdict line.now text_slots map_slots }
-{
-    refusal::check_text(line)?;
-    if source::is_short(line, text_slots, map_slots) {
-        return Err(Reason::ShortBuffer.at(0));
-    }
-    Ok(())
-}
 
 // Whether a book is of the line's language.
 fn is_suited(language: Language, ignores_case: bool) -> bool
@@ -30,8 +19,5 @@ pub fn check_line(dialect: Dialect, ignores_case: bool, line: &[u8]) -> Result<(
     if !is_suited(dialect.language, ignores_case) {
         return Err(Reason::WrongLanguage.at(0));
     }
-    match validation::validate_logical_line(dialect, line) {
-        None => Ok(()),
-        Some(place) => Err(Reason::InvalidLine.at(place)),
-    }
+    source::check_lines(dialect, line)
 }

@@ -5,10 +5,11 @@ ghost use Rattle.refusal.specs.Verdict.{fine};
 ghost use Rattle.rulebook.specs.Book.{book_of};
 ghost use Rattle.directive.specs.Name.{name_at};
 ghost use Rattle.reader.specs.Line.{opening as opening_of, parsed};
-ghost use Rattle.reader.specs.Steps.{call_verdict, Heads, HeadGives, answered};
+ghost use Rattle.source.specs.Verdicts.{fit_verdict};
+ghost use Rattle.reader.specs.Steps.{Heads, HeadGives, answered};
 
 use crate::{Reading, checks, opening};
-use clause::{SequenceEnd, SequenceState, steps};
+use clause::{ClauseList, SequenceEnd, SequenceState};
 use directive::DirectiveName;
 use lexer::Dialect;
 use refusal::Refusal;
@@ -40,7 +41,7 @@ fn head_of(dialect: Dialect, book: &CheckedBook, text: &[u8], slots: usize) -> R
     Ok(Head {
         name,
         length: text.len(),
-        start: steps::start_at(book, text, name.end, slots),
+        start: ClauseList { book, text }.start_at(name.end, slots),
     })
 }
 
@@ -53,7 +54,7 @@ pub(crate) fn head_of_fit(
     map: &mut [u16],
     slots: usize,
 ) -> Result<Head, Refusal>
-    requires { call_verdict line.now (length text.old) (length map.old) ≡ fine }
+    requires { fit_verdict line.now (length text.old) (length map.old) ≡ fine }
     ensures { HeadGives dialect.language dialect.prefix book.now.bytes.now line.now slots text.new map.new result }
 {
     checks::check_line(dialect, book.header.ignores_case, line)?;

@@ -3,7 +3,7 @@
 
 pub mod checks;
 pub mod heading;
-pub mod line;
+mod line;
 pub mod many;
 pub mod opening;
 
@@ -11,7 +11,8 @@ ghost use Rattle.std.specs.Prelude.{◌≡◌, min, length};
 ghost use Rattle.refusal.specs.Answer.{told};
 ghost use Rattle.reader.specs.Calls.{LineCall, line_call, line_within};
 
-use clause::ClauseRecord;
+use clause::records::zero_record;
+use clause::{ClauseRecord, RecordArray};
 use lexer::Dialect;
 use refusal::Refusal;
 
@@ -24,13 +25,6 @@ pub struct Reading {
     pub name_end: usize,
     pub count: usize,
     pub rest: usize,
-}
-
-// The answer with its record slots, by value.
-#[derive(Clone, Copy)]
-pub struct LineArray<const N: usize> {
-    pub answer: Result<Reading, Refusal>,
-    pub records: [ClauseRecord; N],
 }
 
 // The whole line: joined into the lent text and map, its clauses in the lent record slots. Refusals 1 to 7, then 8 to 14 in reading order.
@@ -46,11 +40,17 @@ pub fn read_line(
     ensures { record { answer = told result; text = text.new; map = map.new; records = records.new }
         ≡ line_call dialect.language dialect.prefix book.now line.now (length text.old) (length map.old) (length records.old) }
 {
-    let slots = records.len();
-    line::read_into(dialect, book, line, text, map, slots, records)
+    let result = line::read_up_to(dialect, book, line, text, map, records);
+    if result.is_err() {
+        text.fill(0);
+        map.fill(0);
+        records.fill(zero_record());
+    }
+    result
 }
 
-// The same over an array of records by value, of which so many slots are used: for callers that hold their records in a local.
+// The same over an array of records by value, of which so many slots are used: for callers that hold their records in a local. Beside `parse_sequence_array`: the
+// call in it is all that differs, and a closure over the slots, with a contract for what it writes, would be no plainer.
 pub fn read_line_array<const N: usize>(
     dialect: Dialect,
     book: &[u8],
@@ -59,10 +59,13 @@ pub fn read_line_array<const N: usize>(
     map: &mut [u16],
     slots: usize,
     mut records: [ClauseRecord; N],
-) -> LineArray<N>
+) -> RecordArray<Reading, N>
     ensures { record { answer = told result.answer; text = text.new; map = map.new; records = result.records }
         ≡ line_within dialect.language dialect.prefix book.now line.now (length text.old) (length map.old) (min slots N) N }
 {
-    let answer = line::read_into(dialect, book, line, text, map, slots.min(N), &mut records);
-    LineArray { answer, records }
+    let used = slots.min(N);
+    let lent = &mut records[..];
+    let answer = read_line(dialect, book, line, text, map, &mut lent[..used]);
+    lent[used..].fill(zero_record());
+    RecordArray { answer, records }
 }

@@ -1,14 +1,16 @@
 // The answer of a line under a book that was checked: for calls that read many lines under one check.
 ghost use Rattle.std.specs.Prelude.{◌≡◌, ℕ, List, length};
 ghost use Rattle.refusal.specs.Answer.{told};
-ghost use Rattle.clause.specs.Calls.{Judged};
+ghost use Rattle.rulebook.specs.Judged.{Judged};
 ghost use Rattle.reader.specs.Calls.{line_call};
 
-use crate::{Reading, checks, heading};
+use crate::{Reading, heading};
+use clause::ClauseList;
 use lexer::Dialect;
 use refusal::Refusal;
 use rulebook::CheckedBook;
 
+// Beside `read_up_to`: many lines share the check of one book, and no record is kept, so that only the steps of a head are common.
 // The answer of a line with so many record slots, under a book as its check left it. What text and map hold afterwards is not said.
 pub fn line_answer(
     dialect: Dialect,
@@ -21,12 +23,15 @@ pub fn line_answer(
     ensures { (bytes : List ℕ) → Judged bytes book.now
         → told result ≡ (line_call dialect.language dialect.prefix bytes line.now (length text.old) (length map.old) slots).answer }
 {
-    checks::check_fit(line, text.len(), map.len())?;
+    source::check_fit(line, text.len(), map.len())?;
     match book {
         Ok(book) => {
             let head = heading::head_of_fit(dialect, book, line, text, map, slots)?;
-            let joined = &text[..head.length];
-            let end = clause::many::count_clauses(book, joined, head.start, slots)?;
+            let list = ClauseList {
+                book,
+                text: &text[..head.length],
+            };
+            let end = list.count_clauses(head.start, slots)?;
             Ok(heading::reading(head.name, end))
         }
         Err(refusal) => Err(*refusal),

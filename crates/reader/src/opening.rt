@@ -25,10 +25,9 @@ fn opening_f(dialect: Dialect, text: &[u8]) -> Result<Cursor, Refusal>
     ensures forward { Forward 0 (length text.now) result }
 {
     let start = Cursor { at: 0 }.trivia(text, false)?.at;
-    let n = continuation::opening_sentinel(&text[start..], dialect);
-    if n == 0 {
+    let Some(n) = continuation::opening_sentinel(&text[start..], dialect) else {
         return Err(Reason::NoOpening.at(0));
-    }
+    };
     Cursor { at: start + n }.some_trivia(text, true)
 }
 

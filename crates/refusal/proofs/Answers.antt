@@ -5,7 +5,6 @@ use mathlib.Core.Bool.{Bool, true, false, cond}
 use Rattle.std.specs.Prelude.{Option, Some, None}
 use mathlib.Core.Path.{◌≡◌, refl}
 use mathlib.Core.List.{List}
-use native.Mathlib.Omega.{arith}
 use lib.ListN.{length}
 use lib.Dec.{ltb}
 use Rattle.ascii.specs.Text.{first_high}
@@ -13,7 +12,7 @@ use Rattle.refusal.specs.Answer.{Answer, given, refused, and_then, unless_fault,
 
 -- nothing that is refused is given
 pub never : {A : Type 0} (B : Type 0) (n p : ℕ) (a : A) → refused n p ≡ given a → B
-never B n p a h = let z : ◌≡◌ {A = ℕ} 0 1 = cc in absurd (omega arith)
+never B n p a h = cc
 
 pub and_then-given : {A B : Type 0} (x : Answer A) (f : A → Answer B) (b : B) → and_then x f ≡ given b → (a : A) × (x ≡ given a) × (f a ≡ given b)
 and_then-given (given a) f b h = (a, refl, h)

@@ -56,7 +56,7 @@ entry_from-append f i j name (e ∷ es) more h = go (same_by f e.name name) (ent
 -- an entry's index is below the number of entries
 pub entry_from-below : (f : ℕ → ℕ) (i j : ℕ) (name : List ℕ) (es : List Entry) → entry_from f i name es ≡ Some j → j < i + length es
 unfolding entry_from
-entry_from-below f i j name [] h = let z : ◌≡◌ {A = ℕ} 0 1 = cc in absurd (omega arith)
+entry_from-below f i j name [] h = cc
 entry_from-below f i j name (e ∷ es) h = go (same_by f e.name name) (entry_from-below f (suc i) j name es) h
   where
     go : (b : Bool) → (entry_from f (suc i) name es ≡ Some j → j < suc i + length es)

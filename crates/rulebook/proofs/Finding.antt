@@ -13,7 +13,7 @@ use Rattle.rulebook.specs.declared.Header.{Header}
 use Rattle.rulebook.specs.declared.index.FoundEntry.{FoundEntry}
 use Rattle.bookform.specs.Format.{rule_for, HasForm}
 use Rattle.rulebook.specs.Book.{Entry, rule_said, name_at, entries_from, Laid, entries_in, LaidIn, clauses_of, header_of, book_of}
-use Rattle.rulebook.specs.Lookup.{comparison, entry_from, find_from, no_entry, rule_at, clause_entry}
+use Rattle.rulebook.specs.Lookup.{comparison, entry_from, find_from, rule_at, clause_entry}
 use Rattle.rulebook.proofs.Forms.{form-directives, form-clauses}
 
 -- the index alone
@@ -42,7 +42,7 @@ record Found (bs : List ℕ) (d : ClauseRule) (i n at j p : ℕ) : Type 0 where
 module _ (bs : List ℕ) (d : ClauseRule) (f : ℕ → ℕ) (name : List ℕ) where
   found_from : (n i at : ℕ) (e : FoundEntry) → Laid 1 n at bs → find_from f i name (entries_from 1 n at bs) ≡ Some e → Found bs d i n at e.index e.at
   unfolding Laid entries_from find_from rule_at
-  found_from zero i at e l h = let z : ◌≡◌ {A = ℕ} 0 1 = cc in absurd (omega arith)
+  found_from zero i at e l h = cc
   found_from (suc n) i at e l h =
       go (same_by f (part bs (name_at 1 at bs)) name) (found_from n (suc i) (name_at 1 at bs).end e l.2) h
     where
@@ -100,14 +100,14 @@ clause-found bs h d f name found form e is =
 -- the entry that the definition gives to a clause's name
 module _ (bs : List ℕ) (h : Header) (e : h ≡ header_of bs) (name : List ℕ) where
   pub entry_found : HasForm bs → (found : FoundEntry) → find_from (comparing h.ignores_case) 0 name (entries_in h.clauses bs) ≡ Some found
-      → clause_entry (book_of bs) name ≡ record { index = found.index; rule = rule_said (rule_for (get_or bs found.at 0)) }
+      → clause_entry (book_of bs) name ≡ record { index = Some found.index; rule = rule_said (rule_for (get_or bs found.at 0)) }
   unfolding clause_entry
   entry_found form found is =
       let r = clause-found bs h h.default_rule _ name found form e is in
       rw (book-case bs h e, book-clauses bs h e, book-default bs h e, index-found, is, r.2)
 
   pub entry-missing : find_from (comparing h.ignores_case) 0 name (entries_in h.clauses bs) ≡ None
-      → clause_entry (book_of bs) name ≡ record { index = no_entry; rule = h.default_rule }
+      → clause_entry (book_of bs) name ≡ record { index = None; rule = h.default_rule }
   unfolding clause_entry
   entry-missing found = rw (book-case bs h e, book-clauses bs h e, book-default bs h e, index-found, found)
 

@@ -12,14 +12,11 @@ use lib.Dec.{eqb, ltb}
 use borrow.Author.Tests.{ltb-true, ltb-false}
 use Rattle.ascii.specs.Ascii.{is_word}
 use Rattle.ascii.proofs.Flags.{by_cases}
-use Rattle.refusal.specs.declared.Reason.TheVariants.{WrongBook}
-use Rattle.refusal.specs.Answer.{Answer, given, unless_fault}
-use Rattle.refusal.specs.Verdict.{fault_by, or_refused}
 use Rattle.bookform.specs.declared.Expect.{Expect}
 use Rattle.bookform.specs.declared.Expect.TheVariants.{HeaderByte, ClauseCount, DirectiveLength, DirectiveName, Rule, ClauseLength, ClauseName}
 use Rattle.bookform.specs.Format.{rule_for, is_known, is_header, is_length, clauses_left, directives_left, stepped, ended_at, bad_from, HasForm}
 use Rattle.rulebook.specs.Book.{name_at, place_after, Laid, LaidIn, directives_of, clauses_of}
-use Rattle.rulebook.specs.Check.{or_else, book_fault, book_verdict, book_call}
+use Rattle.rulebook.specs.Check.{or_else, book_fault}
 use Rattle.bookform.proofs.Steps.{never, when-next, at_least, bad-here, bad-later, bad-end}
 
 module _ (bs : List ℕ) where
@@ -140,12 +137,3 @@ module _ (bs : List ℕ) where
       go : (a b : Option ℕ) → or_else a b ≡ None → a ≡ None
       go None b e = refl
       go (Some p) b e = e
-
--- the check is the call
-verdict-of : (o : Option ℕ) → ◌≡◌ {A = Answer (Unit {0})} (or_refused (fault_by WrongBook o) (given tt)) (unless_fault 4 o (given tt))
-verdict-of None = refl
-verdict-of (Some p) = refl
-
-pub verdict-call : (bs : List ℕ) → ◌≡◌ {A = Answer (Unit {0})} (or_refused (book_verdict bs) (given tt)) (book_call bs)
-unfolding book_verdict book_call
-verdict-call bs = verdict-of (book_fault bs)

@@ -6,7 +6,7 @@ use Prim.Native.Nat.{ℕ}
 use lib.ListN.{get_or}
 use Rattle.rulebook.specs.declared.Header.{Header}
 use Rattle.bookform.specs.declared.Expect.TheVariants.{HeaderByte}
-use Rattle.bookform.specs.Format.{bad_from, HasForm}
+use Rattle.bookform.specs.Format.{lead_of, bad_from, HasForm}
 use Rattle.rulebook.specs.Book.{place_after, entries_in, clauses_of, header_of, book_of}
 use Rattle.rulebook.specs.Check.{repeat_from, book_fault}
 use Rattle.rulebook.proofs.Finding.{book-directives, book-clauses}
@@ -25,16 +25,8 @@ module _ (bs : List ℕ) where
   unfolding book_fault
   fault-left f d = rw (f, d)
 
-  -- the counts of a header are bytes, and the directives come first
+  -- the counts of a header are bytes
   module _ (h : Header) (e : h ≡ header_of bs) where
-    pub lead-directives : h.directives.lead ≡ 0
-    unfolding header_of
-    lead-directives = rw e
-
-    pub lead-clauses : h.clauses.lead ≡ 1
-    unfolding header_of clauses_of
-    lead-clauses = rw e
-
     pub count-directives : h.directives.count ≡ get_or bs 7 0
     unfolding header_of
     count-directives = rw e
@@ -44,7 +36,7 @@ module _ (bs : List ℕ) where
     count-clauses = rw e
 
   -- they begin where the directives end
-  pub clauses-begin : (header_of bs).clauses.first ≡ place_after (header_of bs).directives.lead (header_of bs).directives.count (header_of bs).directives.first bs
+  pub clauses-begin : (header_of bs).clauses.first ≡ place_after (lead_of (header_of bs).directives.kind) (header_of bs).directives.count (header_of bs).directives.first bs
   unfolding header_of clauses_of
   clauses-begin = refl
 

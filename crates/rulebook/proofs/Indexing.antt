@@ -1,9 +1,9 @@
--- The index of a book: the last entry with a name is among those with its signature, each of which leads to the one before; one entry more
--- keeps that so; and where no name repeats another, the last entry with a name is the first. Assumes nothing.
+-- The index of a book: the last entry with a name is among those with its signature, each of which leads to the one before, and one entry
+-- more keeps that so. By induction over the entries. Assumes nothing.
 use mathlib.Core.Path.{◌≡◌, refl, sym, ap, ◌∙◌}
-use mathlib.Core.Bool.{Bool, true, false, cond, ◌&&◌, ◌||◌, true≢false}
-use Rattle.std.specs.Prelude.{Option, Some, None}
-use mathlib.Core.List.{List, [], ◌∷◌, ◌++◌, append_assoc, append-nil}
+use mathlib.Core.Bool.{Bool, true, false, cond, true≢false}
+use Rattle.std.specs.Prelude.{Some, None}
+use mathlib.Core.List.{List}
 use Prim.Native.Nat.{ℕ, zero, suc, ◌+◌, ◌-◌, ◌*◌, ◌/◌, ◌%◌, ◌<◌, ◌≤◌}
 use native.Mathlib.Numerals.{add-one}
 use native.Mathlib.Omega.{arith}
@@ -11,17 +11,12 @@ use lib.ListN.{length, get_or, set, replicate}
 use lib.Seq.{get_or-set_same, get_or-set_other}
 use lib.Dec.{eqb}
 use borrow.Author.Tests.{eqb-true, eq-eqb}
-use Rattle.ascii.specs.Ascii.{fold}
 use Rattle.ascii.specs.Text.{part, same_by, comparing}
-use Rattle.rulebook.specs.declared.index.FoundEntry.{FoundEntry}
 use Rattle.rulebook.specs.declared.index.NameIndex.{NameIndex}
-use Rattle.rulebook.specs.Book.{Entry, name_at, entry_at, entries_from, place_after, Laid}
-use Rattle.rulebook.specs.Check.{is_named, repeat_from}
-use Rattle.rulebook.specs.Lookup.{find_from}
+use Rattle.rulebook.specs.Book.{name_at, place_after, Laid}
 use Rattle.rulebook.specs.Signature.{signature}
 use Rattle.rulebook.specs.Index.{name_of, slot_of, last_slot, last_named, Indexed, Blank}
-use Rattle.rulebook.proofs.Laying.{entries-snoc, place-snoc, laid-at}
-use Rattle.rulebook.proofs.Repeating.{is_found, named-found}
+use Rattle.rulebook.proofs.Laying.{place-snoc, laid-at}
 use Rattle.rulebook.proofs.Signatures.{signed-apart}
 
 -- a list of zeros
@@ -102,37 +97,53 @@ module _ (lead first : ℕ) (bs : List ℕ) where
     unfolding last_named
     last-before m h = rw (add-one m, h)
 
-    -- What a slot of the index tells that is not 0: the last of the first k entries with the name's signature.
-    module _ (n : ℕ) (index : NameIndex) (d : Indexed lead first n bs index) (laid : Laid lead n first bs)
-        (k slot : ℕ) (kn : k ≤ n) (is : slot ≡ last_slot lead first bs (signature name) k) (some : slot ≡ 0 → ⊥) where
-      pub told : Reached k slot
-      told = rw is (reached k (λ z. some (is ∙ z)))
+-- a slot of the index tells of the last of the first k entries with the name's signature, and none of the others has the name
+pub record Telling (lead first : ℕ) (bs : List ℕ) (ic : Bool) (name : List ℕ) (n slot : ℕ) : Type 0 where
+  pub k : ℕ
+  pub within : k ≤ n
+  pub is : slot ≡ last_slot lead first bs (signature name) k
+  pub rest : last_named (comparing ic) name lead first bs k ≡ last_named (comparing ic) name lead first bs n
 
-      pub number : (slot - 1) % 256 ≡ told.m
-      number = omega (arith, told.is, told.below, d.few)
+pub told-none : {lead first n slot : ℕ} {bs : List ℕ} {ic : Bool} {name : List ℕ} → Telling lead first bs ic name n slot → slot ≡ 0
+    → last_named (comparing ic) name lead first bs n ≡ None
+told-none {lead} {first} {bs = bs} {ic = ic} {name = name} t z = sym t.rest ∙ unreached lead first bs ic name t.k (sym t.is ∙ z)
 
-      pub place : first + (slot - 1) / 256 ≡ place_after lead told.m first bs
-      place = omega (arith, told.is, told.below, d.few, behind-first told.m)
+-- it is not 0
+module _ {lead first n slot : ℕ} {bs : List ℕ} {ic : Bool} {name : List ℕ} {index : NameIndex}
+    (d : Indexed lead first n bs index) (laid : Laid lead n first bs) (t : Telling lead first bs ic name n slot) (some : slot ≡ 0 → ⊥) where
+  entry : Reached lead first bs ic name t.k slot
+  entry = rw t.is (reached lead first bs ic name t.k (λ z. some (t.is ∙ z)))
 
-      pub inside : (name_at lead (first + (slot - 1) / 256) bs).end ≤ length bs
-      inside = rw place (laid-at lead bs n told.m first (omega (arith, told.below)) laid)
+  number : (slot - 1) % 256 ≡ entry.m
+  number = omega (arith, t.within, entry.is, entry.below, d.few)
 
-      -- it has the name, or the last one before it with the same signature is asked
-      pub found-here : same_by (comparing ic) (part bs (name_at lead (first + (slot - 1) / 256) bs)) name ≡ true
-          → last_named (comparing ic) name lead first bs k ≡ Some (record { index = (slot - 1) % 256; at = first + (slot - 1) / 256 })
-      found-here h = rw (number, place) (told.rest ∙ last-here told.m (rw place at h))
+  place : first + (slot - 1) / 256 ≡ place_after lead entry.m first bs
+  place = omega (arith, t.within, entry.is, entry.below, d.few, behind-first lead first bs entry.m)
 
-      linked : get_or index.links ((slot - 1) % 256) 0 ≡ last_slot lead first bs (signature name) told.m
-      linked = rw number (d.links told.m (omega (arith, told.below)) ∙ ap (λ (q : ℕ). last_slot lead first bs q told.m) told.signed)
+  pub inside : (name_at lead (first + (slot - 1) / 256) bs).end ≤ length bs
+  inside = rw place (laid-at lead bs n entry.m first (omega (arith, t.within, entry.below)) laid)
 
-      pub link-less : get_or index.links ((slot - 1) % 256) 0 < slot
-      link-less = rw linked (omega (arith, slot-low (signature name) told.m, told.is))
+  -- it has the name, or the last one before it with the same signature is asked
+  pub found-here : same_by (comparing ic) (part bs (name_at lead (first + (slot - 1) / 256) bs)) name ≡ true
+      → last_named (comparing ic) name lead first bs n ≡ Some (record { index = (slot - 1) % 256; at = first + (slot - 1) / 256 })
+  found-here h = rw (number, place) (sym t.rest ∙ entry.rest ∙ last-here lead first bs ic name entry.m (rw place at h))
 
-      pub found-before : same_by (comparing ic) (part bs (name_at lead (first + (slot - 1) / 256) bs)) name ≡ false
-          → (j : ℕ) × (j ≤ n) × (get_or index.links ((slot - 1) % 256) 0 ≡ last_slot lead first bs (signature name) j)
-          × (last_named (comparing ic) name lead first bs j ≡ last_named (comparing ic) name lead first bs k)
-      found-before h = (told.m, omega (arith, told.below), linked, sym (last-before told.m (rw place at h)) ∙ sym told.rest)
+  linked : get_or index.links ((slot - 1) % 256) 0 ≡ last_slot lead first bs (signature name) entry.m
+  linked = rw number (d.links entry.m (omega (arith, t.within, entry.below)) ∙ ap (λ (q : ℕ). last_slot lead first bs q entry.m) entry.signed)
 
+  pub link-less : get_or index.links ((slot - 1) % 256) 0 < slot
+  link-less = rw linked (omega (arith, slot-low lead first bs (signature name) entry.m, entry.is))
+
+  pub found-before : same_by (comparing ic) (part bs (name_at lead (first + (slot - 1) / 256) bs)) name ≡ false
+      → Telling lead first bs ic name n (get_or index.links ((slot - 1) % 256) 0)
+  found-before h = record {
+    k = entry.m;
+    within = omega (arith, t.within, entry.below);
+    is = linked;
+    rest = sym (last-before lead first bs ic name entry.m (rw place at h)) ∙ sym entry.rest ∙ t.rest;
+  }
+
+module _ (lead first : ℕ) (bs : List ℕ) where
   -- no entry yet
   pub indexed-none : (index : NameIndex) → lead ≤ 1 → Blank index → Indexed lead first 0 bs index
   unfolding last_slot
@@ -175,150 +186,3 @@ module _ (lead first : ℕ) (bs : List ℕ) where
       heads = λ q h. rw (add-one m) (head q h (eqb (signature (name_of lead first bs m)) q) refl);
       links = λ j h. link j h (eqb j m) refl;
     }
-
--- an entry more at the end: whether it has a name, where a name is found, whether it repeats one
-named-snoc : (f : ℕ → ℕ) (name : List ℕ) (es : List Entry) (e : Entry) → is_named f name (es ++ (e ∷ [])) ≡ (same_by f e.name name || is_named f name es)
-unfolding is_named
-named-snoc f name [] e = refl
-named-snoc f name (d ∷ ds) e = go (same_by f d.name name) (same_by f e.name name) (named-snoc f name ds e)
-  where
-    go : (t u : Bool) → is_named f name (ds ++ (e ∷ [])) ≡ (u || is_named f name ds) → (t || is_named f name (ds ++ (e ∷ []))) ≡ (u || (t || is_named f name ds))
-    go true true h = refl
-    go true false h = refl
-    go false u h = h
-
-abbrev or_found : Option FoundEntry → Option FoundEntry → Option FoundEntry
-or_found (Some e) b = Some e
-or_found None b = b
-
-find-snoc : (f : ℕ → ℕ) (name : List ℕ) (es : List Entry) (e : Entry) (i : ℕ)
-    → find_from f i name (es ++ (e ∷ [])) ≡ or_found (find_from f i name es) (cond (same_by f e.name name) (Some (record { index = i + length es; at = e.at })) None)
-unfolding find_from
-find-snoc f name [] e i = let q : i + 0 ≡ i = omega arith in rw q
-find-snoc f name (d ∷ ds) e i = go (same_by f d.name name) (find-snoc f name ds e (suc i))
-  where
-    go : (t : Bool) → find_from f (suc i) name (ds ++ (e ∷ [])) ≡ or_found (find_from f (suc i) name ds) (cond (same_by f e.name name) (Some (record { index = suc i + length ds; at = e.at })) None)
-        → cond t (Some (record { index = i; at = d.at })) (find_from f (suc i) name (ds ++ (e ∷ [])))
-        ≡ or_found (cond t (Some (record { index = i; at = d.at })) (find_from f (suc i) name ds)) (cond (same_by f e.name name) (Some (record { index = i + suc (length ds); at = e.at })) None)
-    go true h = refl
-    go false h = let q : i + suc (length ds) ≡ suc i + length ds = omega arith in rw q h
-
-pub some-none : {n : ℕ} → ◌≡◌ {A = Option ℕ} (Some n) None → ⊥
-some-none e = let z : ◌≡◌ {A = ℕ} 0 1 = cc in omega arith
-
-repeat-snoc : (earlier es : List Entry) (e : Entry) → repeat_from earlier (es ++ (e ∷ [])) ≡ None → (repeat_from earlier es ≡ None) × (is_named fold e.name (earlier ++ es) ≡ false)
-unfolding repeat_from
-repeat-snoc earlier [] e h = go (is_named fold e.name earlier) refl h
-  where
-    go : (t : Bool) → is_named fold e.name earlier ≡ t → cond t (Some e.at) None ≡ None → (repeat_from earlier [] ≡ None) × (is_named fold e.name (earlier ++ []) ≡ false)
-    go true q h = absurd (some-none h)
-    go false q h = (refl, rw (append-nil earlier) q)
-repeat-snoc earlier (d ∷ ds) e h = go (is_named fold d.name earlier) (repeat-snoc (earlier ++ (d ∷ [])) ds e) h
-  where
-    go : (t : Bool)
-        → (repeat_from (earlier ++ (d ∷ [])) (ds ++ (e ∷ [])) ≡ None → (repeat_from (earlier ++ (d ∷ [])) ds ≡ None) × (is_named fold e.name ((earlier ++ (d ∷ [])) ++ ds) ≡ false))
-        → cond t (Some d.at) (repeat_from (earlier ++ (d ∷ [])) (ds ++ (e ∷ []))) ≡ None
-        → (cond t (Some d.at) (repeat_from (earlier ++ (d ∷ [])) ds) ≡ None) × (is_named fold e.name (earlier ++ (d ∷ ds)) ≡ false)
-    go true ih h = absurd (some-none h)
-    go false ih h =
-        let r = ih h in
-        (r.0, rw (append_assoc earlier (d ∷ []) ds) at r.1)
-
--- names that both equal a third are equal with case ignored
-same-both : (ic : Bool) (a b c : List ℕ) → same_by (comparing ic) a c ≡ true → same_by (comparing ic) b c ≡ true → same_by fold a b ≡ true
-unfolding same_by
-same-both ic [] [] c h g = refl
-same-both ic [] (y ∷ ys) [] h g = absurd (true≢false (sym g))
-same-both ic [] (y ∷ ys) (z ∷ zs) h g = absurd (true≢false (sym h))
-same-both ic (x ∷ xs) [] [] h g = absurd (true≢false (sym h))
-same-both ic (x ∷ xs) [] (z ∷ zs) h g = absurd (true≢false (sym g))
-same-both ic (x ∷ xs) (y ∷ ys) [] h g = absurd (true≢false (sym h))
-same-both ic (x ∷ xs) (y ∷ ys) (z ∷ zs) h g = go (eqb (comparing ic x) (comparing ic z)) refl (eqb (comparing ic y) (comparing ic z)) refl (same-both ic xs ys zs) h g
-  where
-    byte : (ic : Bool) → comparing ic x ≡ comparing ic z → comparing ic y ≡ comparing ic z → fold x ≡ fold y
-    byte true h g = h ∙ sym g
-    byte false h g = ap fold (h ∙ sym g)
-
-    go : (t : Bool) → eqb (comparing ic x) (comparing ic z) ≡ t → (u : Bool) → eqb (comparing ic y) (comparing ic z) ≡ u
-        → (same_by (comparing ic) xs zs ≡ true → same_by (comparing ic) ys zs ≡ true → same_by fold xs ys ≡ true)
-        → (t && same_by (comparing ic) xs zs) ≡ true → (u && same_by (comparing ic) ys zs) ≡ true → (eqb (fold x) (fold y) && same_by fold xs ys) ≡ true
-    go true p true q ih h g = rw (eq-eqb _ _ (byte ic (eqb-true _ _ p) (eqb-true _ _ q))) (ih h g)
-    go true p false q ih h g = absurd (true≢false (sym g))
-    go false p u q ih h g = absurd (true≢false (sym h))
-
--- where no entry has a name that equals another, none has the other
-named_other : (ic : Bool) (x name : List ℕ) (es : List Entry) → same_by (comparing ic) x name ≡ true → is_named fold x es ≡ false → is_named (comparing ic) name es ≡ false
-unfolding is_named
-named_other ic x name [] h g = refl
-named_other ic x name (e ∷ es) h g = go (same_by (comparing ic) e.name name) refl (same_by fold e.name x) refl (named_other ic x name es h) g
-  where
-    go : (t : Bool) → same_by (comparing ic) e.name name ≡ t → (u : Bool) → same_by fold e.name x ≡ u
-        → (is_named fold x es ≡ false → is_named (comparing ic) name es ≡ false) → (u || is_named fold x es) ≡ false → (t || is_named (comparing ic) name es) ≡ false
-    go true p true q ih g = absurd (true≢false g)
-    go true p false q ih g = absurd (true≢false (sym (same-both ic e.name x name p h) ∙ q))
-    go false p true q ih g = absurd (true≢false g)
-    go false p false q ih g = ih g
-
-not_named : (f : ℕ → ℕ) (name : List ℕ) (es : List Entry) → is_named f name es ≡ false → find_from f 0 name es ≡ None
-not_named f name es h = go (find_from f 0 name es) (sym (named-found f 0 name es) ∙ h)
-  where
-    go : (r : Option FoundEntry) → is_found r ≡ false → r ≡ None
-    go (Some e) h = absurd (true≢false h)
-    go None h = refl
-
-module _ (lead first : ℕ) (bs : List ℕ) where
-  entries-long : (n at : ℕ) → length (entries_from lead n at bs) ≡ n
-  unfolding entries_from
-  entries-long zero at = refl
-  entries-long (suc n) at = ap suc (entries-long n (name_at lead at bs).end)
-
-  more : (n : ℕ) → entries_from lead (suc n) first bs ≡ entries_from lead n first bs ++ (entry_at lead (place_after lead n first bs) bs ∷ [])
-  more n = rw (add-one n) at (entries-snoc lead bs n first)
-
-  -- a name is an entry's where one has it as the last
-  pub named-last : (f : ℕ → ℕ) (name : List ℕ) (n : ℕ) → is_named f name (entries_from lead n first bs) ≡ is_found (last_named f name lead first bs n)
-  unfolding last_named is_named entries_from
-  named-last f name zero = refl
-  named-last f name (suc n) =
-      ap (is_named f name) (more n)
-      ∙ named-snoc f name (entries_from lead n first bs) (entry_at lead (place_after lead n first bs) bs)
-      ∙ go (same_by f (name_of lead first bs n) name) (named-last f name n)
-    where
-      go : (t : Bool) → is_named f name (entries_from lead n first bs) ≡ is_found (last_named f name lead first bs n)
-          → (t || is_named f name (entries_from lead n first bs)) ≡ is_found (cond t (Some (record { index = n; at = place_after lead n first bs })) (last_named f name lead first bs n))
-      go true h = refl
-      go false h = h
-
-  zero-add : (n : ℕ) → 0 + n ≡ n
-  zero-add n = omega arith
-
-  none-else : (r : Option FoundEntry) → r ≡ or_found r None
-  none-else (Some e) = refl
-  none-else None = refl
-
-  last_more : (ic : Bool) (name : List ℕ) (n : ℕ) → is_named fold (name_of lead first bs n) (entries_from lead n first bs) ≡ false
-      → last_named (comparing ic) name lead first bs n ≡ find_from (comparing ic) 0 name (entries_from lead n first bs)
-      → last_named (comparing ic) name lead first bs (suc n)
-      ≡ or_found (find_from (comparing ic) 0 name (entries_from lead n first bs))
-      (cond (same_by (comparing ic) (name_of lead first bs n) name) (Some (record { index = 0 + length (entries_from lead n first bs); at = place_after lead n first bs })) None)
-  unfolding last_named
-  last_more ic name n apart ih = go (same_by (comparing ic) (name_of lead first bs n) name) refl
-    where
-      go : (t : Bool) → same_by (comparing ic) (name_of lead first bs n) name ≡ t
-          → cond t (Some (record { index = n; at = place_after lead n first bs })) (last_named (comparing ic) name lead first bs n)
-          ≡ or_found (find_from (comparing ic) 0 name (entries_from lead n first bs)) (cond t (Some (record { index = 0 + length (entries_from lead n first bs); at = place_after lead n first bs })) None)
-      go true q = rw (not_named (comparing ic) name (entries_from lead n first bs) (named_other ic (name_of lead first bs n) name (entries_from lead n first bs) q apart), entries-long n first, zero-add n)
-      go false q = ih ∙ none-else (find_from (comparing ic) 0 name (entries_from lead n first bs))
-
-  -- where no name repeats another, the last entry with a name is the first
-  pub last-is-first : (ic : Bool) (name : List ℕ) (n : ℕ) → repeat_from [] (entries_from lead n first bs) ≡ None
-      → last_named (comparing ic) name lead first bs n ≡ find_from (comparing ic) 0 name (entries_from lead n first bs)
-  unfolding last_named find_from entries_from
-  last-is-first ic name zero h = refl
-  last-is-first ic name (suc n) h =
-      let es : List Entry = entries_from lead n first bs in
-      let e : Entry = entry_at lead (place_after lead n first bs) bs in
-      let apart = repeat-snoc [] es e (rw (more n) at h) in
-      last_more ic name n apart.1 (last-is-first ic name n apart.0)
-      ∙ sym (find-snoc (comparing ic) name es e 0)
-      ∙ sym (ap (find_from (comparing ic) 0 name) (more n))

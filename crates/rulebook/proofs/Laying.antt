@@ -1,15 +1,23 @@
 -- Laws of entries that lie inside a book: the next one, one more at the end, fewer of them.
 -- A law about a next entry speaks of n entries, m + 1 of them, and of the range r of the first one's name. Assumes nothing.
-use mathlib.Core.Path.{◌≡◌, refl, sym, ap}
+use mathlib.Core.Path.{◌≡◌, refl, sym, ap, ◌∙◌}
 use mathlib.Core.List.{List, [], ◌∷◌, ◌++◌}
 use Prim.Native.Nat.{ℕ, zero, suc, ◌+◌, ◌-◌, ◌<◌, ◌≤◌}
 use native.Mathlib.Numerals.{add-one}
 use native.Mathlib.Omega.{arith}
-use lib.ListN.{length, drop, get_or, length-drop}
+use lib.ListN.{length, drop, get_or, length-drop, length-map}
 use Rattle.std.proofs.lemmas.List.{length-take-le}
 use Rattle.ascii.specs.declared.Range.{Range}
 use Rattle.ascii.specs.Text.{part}
+use Rattle.bookform.specs.declared.EntryKind.{EntryKind}
+use Rattle.bookform.specs.declared.EntryKind.TheVariants.{Directive, Clause}
+use Rattle.bookform.specs.Format.{lead_of}
 use Rattle.rulebook.specs.Book.{name_at, entry_at, entries_from, names_from, place_after, Laid}
+
+-- at most one byte leads
+pub lead-small : (kind : EntryKind) → lead_of kind ≤ 1
+lead-small Directive = omega arith
+lead-small Clause = omega arith
 
 module _ (lead : ℕ) (bs : List ℕ) where
   -- where entries lie, the first begins inside the book
@@ -45,6 +53,11 @@ module _ (lead : ℕ) (bs : List ℕ) where
   unfolding entries_from
   names_none n at e = rw e
 
+  pub length-entries : (n at : ℕ) → length (entries_from lead n at bs) ≡ n
+  unfolding entries_from
+  length-entries zero at = refl
+  length-entries (suc n) at = ap suc (length-entries n (name_at lead at bs).end)
+
   -- one more at the end
   pub entries-snoc : (k at : ℕ) → entries_from lead (k + 1) at bs ≡ entries_from lead k at bs ++ (entry_at lead (place_after lead k at bs) bs ∷ [])
   unfolding entries_from place_after
@@ -71,9 +84,7 @@ module _ (lead : ℕ) (bs : List ℕ) where
 
   -- names one after another: how many there are, and what a turn over them has
   pub length-names : (n at : ℕ) → length (names_from lead n at bs) ≡ n
-  unfolding entries_from
-  length-names zero at = refl
-  length-names (suc n) at = ap suc (length-names n (name_at lead at bs).end)
+  length-names n at = length-map (entries_from lead n at bs) (λ e. e.name) ∙ length-entries n at
 
   pub record Turn (n at : ℕ) (name : List ℕ) (rest : List (List ℕ)) : Type 0 where
     pub more : n ≡ n - 1 + 1
@@ -85,7 +96,7 @@ module _ (lead : ℕ) (bs : List ℕ) where
 
   pub named-turn : (n at : ℕ) (name : List ℕ) (rest : List (List ℕ)) → Laid lead n at bs → names_from lead n at bs ≡ name ∷ rest → Turn n at name rest
   unfolding entries_from Laid
-  named-turn zero at name rest l h = let z : ◌≡◌ {A = ℕ} 0 1 = cc in absurd (omega arith)
+  named-turn zero at name rest l h = cc
   named-turn (suc n) at name rest l h =
       let q : suc n - 1 ≡ n = omega arith in
       let e : part bs (name_at lead at bs) ≡ name = cc in

@@ -7,8 +7,9 @@ use Rattle.ascii.specs.Text.{part}
 use Rattle.bookform.specs.declared.ClauseRule.{ClauseRule}
 use Rattle.bookform.specs.declared.ClauseRule.TheVariants.{Bare, Unsupported}
 use Rattle.bookform.specs.declared.Entries.{Entries}
+use Rattle.bookform.specs.declared.EntryKind.TheVariants.{Directive, Clause}
 use Rattle.rulebook.specs.declared.Header.{Header}
-use Rattle.bookform.specs.Format.{rule_for}
+use Rattle.bookform.specs.Format.{rule_for, lead_of}
 
 -- a name, the place of its entry's first byte, and a clause's rule
 pub record Entry : Type 0 where
@@ -21,8 +22,8 @@ abbrev pub rule_said : Option ClauseRule → ClauseRule
 rule_said (Some r) = r
 rule_said None = Unsupported
 
--- Both kinds of entries are a length byte and the name, after as many bytes as lead: none in a directive entry ("a length byte 1 to 64 and
--- the name"), the rule byte in a clause entry ("rule byte, length byte 1 to 64, name"). A directive has no rule.
+-- Both kinds of entries are a length byte and the name, after as many bytes as lead: none in a directive entry, the rule byte in a clause entry.
+-- A directive has no rule.
 abbrev pub rule_led : ℕ → ℕ → ClauseRule
 rule_led zero b = Bare
 rule_led (suc lead) b = rule_said (rule_for b)
@@ -62,19 +63,19 @@ Laid-prop lead (suc n) at bs = ×₃_prop (Prim.hlevel logic.props) (Prim.hlevel
 
 -- the entries of one kind
 abbrev pub entries_in : Entries → List ℕ → List Entry
-entries_in es bs = entries_from es.lead es.count es.first bs
+entries_in es bs = entries_from (lead_of es.kind) es.count es.first bs
 
 abbrev pub LaidIn : Entries → List ℕ → Type 0
-LaidIn es bs = Laid es.lead es.count es.first bs
+LaidIn es bs = Laid (lead_of es.kind) es.count es.first bs
 
 -- "Directive entries follow" the nine bytes of the header
 abbrev pub directives_of : List ℕ → Entries
-directives_of bs = record { lead = 0; first = 9; count = get_or bs 7 0 }
+directives_of bs = record { kind = Directive; first = 9; count = get_or bs 7 0 }
 
 -- "Then clause entries"
 unfoldable pub clauses_of : List ℕ → Entries
 unfolding place_after
-clauses_of bs = record { lead = 1; first = place_after 0 (get_or bs 7 0) 9 bs; count = get_or bs 8 0 }
+clauses_of bs = record { kind = Clause; first = place_after 0 (get_or bs 7 0) 9 bs; count = get_or bs 8 0 }
 
 -- "byte 5 flags: bit 0 ignore case and use Fortran trivia, bit 1 optional blanks in directive names .. byte 6 the default clause rule ..
 -- byte 7 directives (1 to 255); byte 8 clauses (0 to 255)"

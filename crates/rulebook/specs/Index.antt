@@ -4,6 +4,7 @@ use Rattle.std.specs.Prelude.{ℕ, zero, suc, ◌+◌, ◌-◌, ◌*◌, ◌<◌
 use Rattle.std.specs.Prelude.{Option, Some, None}
 use Rattle.ascii.specs.Text.{part, same_by}
 use Rattle.bookform.specs.declared.Entries.{Entries}
+use Rattle.bookform.specs.Format.{lead_of}
 use Rattle.rulebook.specs.declared.index.FoundEntry.{FoundEntry}
 use Rattle.rulebook.specs.declared.index.NameIndex.{NameIndex}
 use Rattle.rulebook.specs.declared.index.Index.{Index}
@@ -46,7 +47,7 @@ Fresh index = Blank index.directives × Blank index.clauses
 
 -- What a look-up among entries needs: the index tells of all of them, and no two of them have one name.
 pub record Looked (es : Entries) (bs : List ℕ) (index : NameIndex) : Type 0 where
-  pub told : Indexed es.lead es.first es.count bs index
+  pub told : Indexed (lead_of es.kind) es.first es.count bs index
   pub single : repeat_from [] (entries_in es bs) ≡ None
 
 -- An index of a book tells of the entries of both kinds.

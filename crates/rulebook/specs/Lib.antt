@@ -3,4 +3,5 @@ pub mod Check
 pub mod Lookup
 pub mod Signature
 pub mod Index
+pub mod Judged
 pub mod Examples

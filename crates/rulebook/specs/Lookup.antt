@@ -23,14 +23,6 @@ unfolding same_by
 find_from f i name [] = None
 find_from f i name (e ∷ es) = cond (same_by f e.name name) (Some (record { index = i; at = e.at })) (find_from f (suc i) name es)
 
--- "rule entry (65,535 if none)"
-abbrev pub no_entry : ℕ
-no_entry = 65535
-
-abbrev pub index_or : Option ℕ → ℕ
-index_or None = no_entry
-index_or (Some i) = i
-
 -- the rule of the entry with an index
 unfoldable pub rule_at : ClauseRule → ℕ → List Entry → ClauseRule
 rule_at default zero [] = default
@@ -47,7 +39,7 @@ rule_or default (Some i) es = rule_at default i es
 unfoldable pub clause_entry : Book → List ℕ → ClauseEntry
 unfolding entry_from rule_at
 clause_entry book name = record {
-  index = index_or (entry_from (comparison book) 0 name book.clauses);
+  index = entry_from (comparison book) 0 name book.clauses;
   rule = rule_or book.default (entry_from (comparison book) 0 name book.clauses) book.clauses;
 }
 

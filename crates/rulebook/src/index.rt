@@ -1,6 +1,7 @@
 // The index of a book, and looking names up by it.
 ghost use Rattle.std.specs.Prelude.{◌≡◌, ◌<◌};
 ghost use Rattle.ascii.specs.Text.{comparing};
+ghost use Rattle.bookform.specs.Format.{lead_of};
 ghost use Rattle.rulebook.specs.Book.{entries_in};
 ghost use Rattle.rulebook.specs.Lookup.{find_from};
 ghost use Rattle.rulebook.specs.Signature.{signature as signature_of};
@@ -38,18 +39,19 @@ impl NameIndex {
         ignore_case: bool,
     ) -> Option<FoundEntry>
         requires mark_bound { (mark < 256) × (mark ≡ signature_of name.now) }
-        requires indexed { Indexed listed.entries.lead listed.entries.first listed.entries.count listed.book.now self.now }
-        ensures { result ≡ last_named (comparing ignore_case) name.now listed.entry.entries.lead listed.entry.entries.first listed.entry.book.now listed.entry.entries.count }
+        requires indexed { Indexed (lead_of listed.entries.kind) listed.entries.first listed.entries.count listed.book.now self.now }
+        ensures { result ≡ last_named (comparing ignore_case) name.now (lead_of listed.entry.entries.kind) listed.entry.entries.first listed.entry.book.now listed.entry.entries.count }
     {
         let book = listed.book;
         let entries = listed.entries;
+        let lead = entries.kind.lead();
         let mut slot = self.heads[mark];
         // by links
         while slot != 0 {
             let told = (slot - 1) as usize;
             let number = told % 256;
             let at = entries.first + told / 256;
-            let range = name_at(book, entries.lead, at);
+            let range = name_at(book, lead, at);
             if same(&book[range.start..range.end], name, ignore_case) {
                 return Some(FoundEntry { index: number, at });
             }

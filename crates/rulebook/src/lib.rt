@@ -1,21 +1,20 @@
 // The book: a file of directive names, clause names and rules.
 #![tactic(auto)]
 
+mod check;
 pub mod index;
 pub mod lookup;
 pub mod names;
 mod repeats;
 
-ghost use Rattle.std.specs.Prelude.{◌≡◌, None, Some, MatchResult};
-ghost use Rattle.refusal.specs.Verdict.{refusal_at};
+ghost use Rattle.std.specs.Prelude.{◌≡◌, ◌<◌, ℕ, None, get_or};
 ghost use Rattle.rulebook.specs.Book.{header_of};
-ghost use Rattle.rulebook.specs.Check.{book_fault, book_verdict};
-ghost use Rattle.rulebook.specs.Index.{Fresh, Indexes};
+ghost use Rattle.rulebook.specs.Check.{book_fault};
+ghost use Rattle.rulebook.specs.Index.{Indexes};
 
-use bookform::{ClauseRule, Entries, format};
+use bookform::{ClauseRule, Entries};
+pub use check::{check_book, checked};
 use index::Index;
-use lookup::FormedBook;
-use refusal::{Reason, Refusal};
 
 // What a book's header says.
 #[derive(Clone, Copy, Debug, PartialEq, Eq)]
@@ -27,10 +26,10 @@ pub struct Header {
     pub clauses: Entries,
 }
 
-// What a book says of a clause's name: the index of its entry, 65,535 if it has none (a form that the calls for C hand on), and its rule.
+// What a book says of a clause's name: the index of its entry, if it has one, and its rule.
 #[derive(Clone, Copy, Debug, PartialEq, Eq)]
 pub struct ClauseEntry {
-    pub index: u16,
+    pub index: Option<u16>,
     pub rule: ClauseRule,
 }
 
@@ -39,38 +38,9 @@ pub struct ClauseEntry {
 pub struct CheckedBook<'a> {
     pub bytes: &'a [u8],
     pub header: Header,
-    index: &'a Index,
+    pub(crate) index: &'a Index,
+    pub ghost in_range: { (i : ℕ) → get_or bytes.now i 0 < 256 },
     pub ghost valid: { book_fault bytes.now ≡ None },
     pub ghost header_read: { header ≡ header_of bytes.now },
     pub ghost indexed: { Indexes bytes.now index.now },
-}
-
-// The check: a bad byte, the book's end if it is cut, else a repeat. In a book without a fault the index is made.
-pub fn checked<'a>(book: &'a [u8], index: &'a mut Index) -> Result<CheckedBook<'a>, Refusal>
-    requires { Fresh index.old }
-    ensures { MatchResult result
-        (λ checked. checked.bytes.now ≡ book.now)
-        (λ r. (r ≡ refusal_at Reason.WrongBook r.place) × (book_fault book.now ≡ Some r.place)) }
-{
-    if let Some(place) = format::first_bad(book) {
-        return Err(Reason::WrongBook.at(place));
-    }
-    let formed = FormedBook { bytes: book };
-    match formed.index_names(index) {
-        Ok(end) => Ok(CheckedBook {
-            bytes: book,
-            header: formed.header(end),
-            index,
-        }),
-        Err(place) => Err(Reason::WrongBook.at(place)),
-    }
-}
-
-// Whether a book is valid: refusal 4 with its place if not.
-pub fn check_book(book: &[u8]) -> Result<(), Refusal>
-    ensures { result ≡ book_verdict book.now }
-{
-    let mut index = Index::new();
-    checked(book, &mut index)?;
-    Ok(())
 }

@@ -8,7 +8,7 @@ ghost use Rattle.rulebook.specs.Lookup.{comparison, entry_from, clause_entry};
 use crate::names::{Listed, Names};
 use crate::{CheckedBook, ClauseEntry, Header};
 use ascii::{Range, same_byte};
-use bookform::{ClauseRule, Entries};
+use bookform::{ClauseRule, Entries, EntryKind};
 
 // Whether two names are equal, with case ignored or not.
 pub fn same(a: &[u8], b: &[u8], ignore_case: bool) -> bool
@@ -56,7 +56,7 @@ impl<'a> FormedBook<'a> {
         ensures { result ≡ (header_of self.entry.bytes.now).directives }
     {
         Entries {
-            lead: 0,
+            kind: EntryKind::Directive,
             first: 9,
             count: usize::from(self.bytes[7]),
         }
@@ -68,7 +68,7 @@ impl<'a> FormedBook<'a> {
         ensures { result ≡ (header_of self.entry.bytes.now).clauses }
     {
         Entries {
-            lead: 1,
+            kind: EntryKind::Clause,
             first,
             count: usize::from(self.bytes[8]),
         }
@@ -106,11 +106,11 @@ impl<'a> CheckedBook<'a> {
             .look_up(listed, name, header.ignores_case)
         {
             Some(found) => ClauseEntry {
-                index: found.index as u16,
+                index: Some(found.index as u16),
                 rule: rule_said(self.bytes[found.at]),
             },
             None => ClauseEntry {
-                index: 65535,
+                index: None,
                 rule: header.default_rule,
             },
         }

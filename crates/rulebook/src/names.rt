@@ -1,6 +1,7 @@
 // A book's entries of one kind, and their names one after another.
 ghost use Rattle.std.specs.Prelude.{◌≡◌, ◌≤◌, ℕ, List};
 ghost use Rattle.std.specs.Iterator.{YieldsFirstRef, item_count};
+ghost use Rattle.bookform.specs.Format.{lead_of};
 ghost use Rattle.rulebook.specs.Book.{Laid, LaidIn, Laid-prop, names_from};
 
 use crate::lookup::name_at;
@@ -12,7 +13,7 @@ use std::marker::Model;
 pub struct Listed<'a> {
     pub book: &'a [u8],
     pub entries: Entries,
-    pub ghost laid: { LaidIn entries book.now } by { Laid-prop entries.lead entries.count entries.first book.now },
+    pub ghost laid: { LaidIn entries book.now } by { Laid-prop (lead_of entries.kind) entries.count entries.first book.now },
 }
 
 impl<'a> Listed<'a> {
@@ -20,12 +21,12 @@ impl<'a> Listed<'a> {
     pub fn first(self, count: usize) -> Listed<'a>
         requires { count ≤ self.entries.count }
         ensures book { result.book ≡ self.entry.book }
-        ensures entries { result.entries ≡ record { lead = self.entry.entries.lead; first = self.entry.entries.first; count = count } }
+        ensures entries { result.entries ≡ record { kind = self.entry.entries.kind; first = self.entry.entries.first; count = count } }
     {
         Listed {
             book: self.book,
             entries: Entries {
-                lead: self.entries.lead,
+                kind: self.entries.kind,
                 first: self.entries.first,
                 count,
             },
@@ -33,11 +34,11 @@ impl<'a> Listed<'a> {
     }
 
     pub fn names(self) -> Names<'a>
-        ensures { result ≡ names_from self.entry.entries.lead self.entry.entries.count self.entry.entries.first self.entry.book.now }
+        ensures { result ≡ names_from (lead_of self.entry.entries.kind) self.entry.entries.count self.entry.entries.first self.entry.book.now }
     {
         Names {
             book: self.book,
-            lead: self.entries.lead,
+            lead: self.entries.kind.lead(),
             at: self.entries.first,
             left: self.entries.count,
         }

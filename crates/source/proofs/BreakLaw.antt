@@ -92,4 +92,4 @@ pub breaks-keep-text : BreaksKeepText
 breaks-keep-text t plain gap p text_slots map_slots a b d =
     let w = woven-broken t gap plain in
     let e = broken-map t gap plain in
-    (rw (← e) (woven-join p text_slots map_slots w a b d), rw (← e) (last_entry w))
+    (rw (← e) (woven-join text_slots map_slots w a b d p), rw (← e) (last_entry w))

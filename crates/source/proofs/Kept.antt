@@ -4,10 +4,13 @@ use Prim.Native.Nat.{ℕ, zero, suc, ◌+◌, ◌<◌, ◌≤◌}
 use native.Mathlib.Nat.{add-zero}
 use native.Mathlib.Numerals.{add-one}
 use native.Mathlib.Omega.{arith}
-use mathlib.Core.Path.{◌≡◌, refl, sym, ◌∙◌}
+use mathlib.Core.Path.{◌≡◌, refl, ◌∙◌}
 use mathlib.Core.List.{List, [], ◌∷◌}
 use lib.ListN.{length, drop, get_or, drop_of_length-le}
 use lib.Seq.{drop-cons, drop-drop}
+use Rattle.std.specs.Prelude.{None, Some}
+use Rattle.lexer.specs.Continuation.{if_any}
+use Rattle.lexer.proofs.Continuing.{if_any-none, if_any-some}
 use Rattle.source.specs.Joining.{kept_from}
 
 module _ (cut : List ℕ → ℕ) (at : ℕ) where
@@ -51,12 +54,15 @@ module _ (cut : List ℕ → ℕ) (line : List ℕ) (i : ℕ) where
 
 -- the same in the terms of a loop that reads at i
 module _ (cut : List ℕ → ℕ) (line : List ℕ) (i : ℕ) where
-  pub kept_next : i < length line → 0 ≡ cut (drop i line)
+  pub kept_next : i < length line → if_any (cut (drop i line)) ≡ None
       → kept_from cut 0 i (drop i line) ≡ record { byte = get_or line i 0; place = i } ∷ kept_from cut 0 (i + 1) (drop (i + 1) line)
-  kept_next h e = rw add-one (kept-at cut line i h (sym e))
+  kept_next h e = rw add-one (kept-at cut line i h (if_any-none (cut (drop i line)) e))
 
-  pub kept-jump : (n : ℕ) → i < length line → n ≡ cut (drop i line) → (n ≡ 0 → ⊥) → kept_from cut 0 i (drop i line) ≡ kept_from cut 0 (i + n) (drop (i + n) line)
-  kept-jump zero h e z = absurd (z refl)
-  kept-jump (suc k) h e z =
-      let q : i + suc k ≡ suc i + k = omega arith in
-      kept-cut-at cut line i k h (sym e) ∙ kept-skip cut (suc i) k (drop (suc i) line) ∙ rw (drop-drop, q)
+  pub kept-jump : (n : ℕ) → i < length line → if_any (cut (drop i line)) ≡ Some n → kept_from cut 0 i (drop i line) ≡ kept_from cut 0 (i + n) (drop (i + n) line)
+  kept-jump n h e = go n (if_any-some (cut (drop i line)) n e).0 (if_any-some (cut (drop i line)) n e).1
+    where
+      go : (n : ℕ) → cut (drop i line) ≡ n → 0 < n → kept_from cut 0 i (drop i line) ≡ kept_from cut 0 (i + n) (drop (i + n) line)
+      go zero c z = absurd (omega arith)
+      go (suc k) c z =
+          let q : i + suc k ≡ suc i + k = omega arith in
+          kept-cut-at cut line i k h c ∙ kept-skip cut (suc i) k (drop (suc i) line) ∙ rw (drop-drop, q)

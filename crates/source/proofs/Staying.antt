@@ -18,7 +18,8 @@ use Rattle.ascii.specs.Text.{leading}
 use Rattle.ascii.proofs.Texts.{leading_le, leading_counts}
 use borrow.Rule.Slice.PartMut.{put_mid}
 use Rattle.std.proofs.lemmas.Slice.{take-put_mid}
-use Rattle.lexer.specs.Continuation.{break_c, break_f}
+use Rattle.std.specs.Prelude.{None}
+use Rattle.lexer.specs.Continuation.{if_any, break_c, break_f}
 use Rattle.source.specs.Joining.{any_cut, byte_of}
 use Rattle.source.specs.Staying.{is_plain, staying, Stays}
 use Rattle.source.proofs.Kept.{kept_next}
@@ -27,7 +28,7 @@ module _ (xs : List ℕ) (i : ℕ) where
   first-is : get_or (drop i xs) 0 0 ≡ get_or xs i 0
   first-is = get_or-drop i xs 0 0 ∙ rw add-zero refl
 
-  pub plain-stays : is_plain (get_or xs i 0) ≡ true → 0 ≡ any_cut (drop i xs)
+  pub plain-stays : is_plain (get_or xs i 0) ≡ true → if_any (any_cut (drop i xs)) ≡ None
   unfolding break_c break_f
   plain-stays e =
       let b = get_or xs i 0 in
@@ -36,7 +37,7 @@ module _ (xs : List ℕ) (i : ℕ) where
       rw (p, q) refl
 
   -- the next byte stays
-  staying-next : i < length xs → 0 ≡ any_cut (drop i xs) → staying xs i ≡ get_or xs i 0 ∷ staying xs (i + 1)
+  staying-next : i < length xs → if_any (any_cut (drop i xs)) ≡ None → staying xs i ≡ get_or xs i 0 ∷ staying xs (i + 1)
   staying-next h e = ap (map byte_of) (kept_next any_cut xs i h e)
 
 module _ (xs : List ℕ) (from : ℕ) where
@@ -60,7 +61,7 @@ module _ (xs : List ℕ) (from : ℕ) where
       }
 
   -- one byte before
-  pub stays-first : (end : ℕ) → from < length xs → 0 ≡ any_cut (drop from xs) → Stays xs (from + 1) end → Stays xs from end
+  pub stays-first : (end : ℕ) → from < length xs → if_any (any_cut (drop from xs)) ≡ None → Stays xs (from + 1) end → Stays xs from end
   stays-first end h e s =
       let o = s.ordered in
       let n : end - from ≡ suc (end - (from + 1)) = omega arith in

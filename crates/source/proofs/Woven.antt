@@ -12,7 +12,7 @@ use lib.Dec.{ltb}
 use borrow.Author.Tests.{ne_eqb, le-ltb}
 use Rattle.ascii.specs.Ascii.{is_eol}
 use Rattle.ascii.specs.Text.{starts, leading, is_blank_text, first_high, padded}
-use Rattle.refusal.specs.Answer.{given, max_length}
+use Rattle.refusal.specs.Answer.{Answer, given, refused, admitted, max_length}
 use Rattle.lexer.specs.declared.Language.TheVariants.{C}
 use Rattle.lexer.specs.declared.Prefix.{Prefix}
 use Rattle.lexer.specs.Continuation.{break_c}
@@ -20,7 +20,7 @@ use Rattle.validation.specs.declared.Checked.TheVariants.{Fine, Next}
 use Rattle.validation.specs.Validation.{line_length, eol_bytes, is_over, check_line, fault_from, fault}
 use Rattle.validation.proofs.Checking.{length-leading, fault-nil, fault-fine, fault-next}
 use Rattle.source.specs.Joining.{kept_from, byte_of, place_of, joined_text, joined_map}
-use Rattle.source.specs.Calls.{join_answer, join_call}
+use Rattle.source.specs.Calls.{is_short, join_answer, join_call}
 use Rattle.source.proofs.Kept.{kept-first}
 
 -- xs is the text t with breaks put into it
@@ -140,17 +140,13 @@ last_entry {t} {xs} w =
     let k = kept_from break_c 0 0 xs in
     get_or_at (map place_of k) (length xs) [] 0 (length t) (length-map k place_of ∙ sym (length-map k byte_of) ∙ ap length (joined 0 w))
 
--- what both calls make of a woven line that passes checks 1 to 3
-module _ (p : Prefix) (text_slots map_slots : ℕ) {t xs : List ℕ} (w : Woven t xs)
+-- a woven line that fits passes rows 1 to 3, and what join alone makes of it
+module _ (text_slots map_slots : ℕ) {t xs : List ℕ} (w : Woven t xs)
     (short-enough : length xs ≤ max_length) (text-fits : length xs ≤ text_slots) (map-fits : length xs < map_slots) where
-  pub woven-join : join_call C p xs text_slots map_slots ≡ record { answer = given (length t); text = padded 0 text_slots t; map = padded 0 map_slots (joined_map C xs) }
+  pub woven-admitted : {A : Type 0} (a : Answer A) → admitted xs (cond (is_short xs text_slots map_slots) (refused 3 0) a) ≡ a
+  woven-admitted a =
+      rw (le-ltb max_length (length xs) short-enough, low 0 w, le-ltb text_slots (length xs) text-fits, le-ltb map_slots (suc (length xs)) map-fits)
+
+  pub woven-join : (p : Prefix) → join_call C p xs text_slots map_slots ≡ record { answer = given (length t); text = padded 0 text_slots t; map = padded 0 map_slots (joined_map C xs) }
   unfolding join_call join_answer fault
-  woven-join =
-      rw (
-        le-ltb max_length (length xs) short-enough,
-        low 0 w,
-        le-ltb text_slots (length xs) text-fits,
-        le-ltb map_slots (suc (length xs)) map-fits,
-        no-fault p xs 0 0 (t, w),
-        woven-joined w,
-      )
+  woven-join p = rw (woven-admitted, no-fault p xs 0 0 (t, w), woven-joined w)

@@ -10,10 +10,19 @@ use Rattle.source.specs.Calls.{is_short}
 abbrev pub short_buffer : Verdict
 short_buffer = Err (refusal_at ShortBuffer 0)
 
+-- rows 1 to 3
+unfoldable pub fit_verdict : List ℕ → ℕ → ℕ → Verdict
+unfolding text_verdict
+fit_verdict line text_slots map_slots = and_check (text_verdict line) (cond (is_short line text_slots map_slots) short_buffer fine)
+
+-- row 6
+abbrev pub lines_verdict : Language → Prefix → List ℕ → Verdict
+lines_verdict l p line = fault_by InvalidLine (fault l p line)
+
 -- join alone: rows 1, 2, 3 and 6
 unfoldable pub join_verdict : Language → Prefix → List ℕ → ℕ → ℕ → Verdict
-join_verdict l p line text_slots map_slots =
-    and_check (text_verdict line) (cond (is_short line text_slots map_slots) short_buffer (fault_by InvalidLine (fault l p line)))
+unfolding fit_verdict
+join_verdict l p line text_slots map_slots = and_check (fit_verdict line text_slots map_slots) (lines_verdict l p line)
 
 -- content copy: rows 1, 2 and 3
 unfoldable pub copy_verdict : List ℕ → ℕ → Verdict

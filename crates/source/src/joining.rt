@@ -1,28 +1,18 @@
 // Joining: each continuation goes, every other byte is kept with its physical place.
-ghost use Rattle.std.specs.Prelude.{◌≡◌, ◌+◌, ◌<◌, ◌≤◌, length, take, drop};
+ghost use Rattle.std.specs.Prelude.{◌≡◌, ◌+◌, ◌<◌, ◌≤◌, length, take, drop, IfSome};
 ghost use Rattle.refusal.specs.Answer.{max_length};
+ghost use Rattle.lexer.specs.Continuation.{if_any};
 ghost use Rattle.source.specs.Joining.{cut_of, joined_text, joined_map, any_cut, collapsed};
 
 use crate::runs;
 use lexer::continuation::Lines;
 use lexer::{Language, continuation};
 
-// The bytes of the continuation of a language that a text begins with; 0 for none, which a walk adds as it is.
-pub fn cut_at(language: Language, rest: &[u8]) -> usize
-    ensures value { result ≡ cut_of language rest.now }
-    ensures within { result ≤ length rest.now }
-{
-    match language {
-        Language::C => continuation::break_c(rest),
-        Language::FortranFree | Language::FortranFixed => continuation::break_f(rest),
-    }
-}
-
-// The same at a place of a text of which it is known from where on no line ends.
-fn cut_before(language: Language, lines: &Lines<'_>, at: usize) -> usize
+// The bytes of the continuation of a language at a place of a text, if one stands there.
+pub fn cut_at(language: Language, lines: &Lines<'_>, at: usize) -> Option<usize>
     requires { at ≤ length lines.now.text.now }
-    ensures value { result ≡ cut_of language (drop at lines.now.text.now) }
-    ensures result_in_bounds { at + result ≤ length lines.now.text.now }
+    ensures value { result ≡ if_any (cut_of language (drop at lines.now.text.now)) }
+    ensures within { IfSome result (λ n. at + n ≤ length lines.now.text.now) }
 {
     match language {
         Language::C => continuation::break_c(&lines.text[at..]),
@@ -30,17 +20,16 @@ fn cut_before(language: Language, lines: &Lines<'_>, at: usize) -> usize
     }
 }
 
-// The same of either language.
-fn any_cut_before(lines: &Lines<'_>, at: usize) -> usize
+// The same of either language, for a copy: one asks a language, this asks both.
+fn any_cut_at(lines: &Lines<'_>, at: usize) -> Option<usize>
     requires { at ≤ length lines.now.text.now }
-    ensures value { result ≡ any_cut (drop at lines.now.text.now) }
-    ensures result_in_bounds { at + result ≤ length lines.now.text.now }
+    ensures value { result ≡ if_any (any_cut (drop at lines.now.text.now)) }
+    ensures within { IfSome result (λ n. at + n ≤ length lines.now.text.now) }
 {
-    let gone = continuation::break_c(&lines.text[at..]);
-    if 0 < gone {
-        return gone;
+    match continuation::break_c(&lines.text[at..]) {
+        Some(gone) => Some(gone),
+        None => lines.break_f(at),
     }
-    lines.break_f(at)
 }
 
 // A line with the place from which on no line ends; in C, where nothing asks for it, it is not sought.
@@ -68,15 +57,14 @@ pub fn join_into(language: Language, line: &[u8], text: &mut [u8], map: &mut [u1
     let lines = lines_of(language, line);
     // by a byte that stays, or a break that goes
     while i < line.len() {
-        let gone = cut_before(language, &lines, i);
-        let stays = gone == 0;
-        if stays {
-            text[k] = line[i];
-            map[k] = i as u16;
-            k += 1;
-            i += 1;
-        } else {
-            i += gone;
+        match cut_at(language, &lines, i) {
+            Some(gone) => i += gone,
+            None => {
+                text[k] = line[i];
+                map[k] = i as u16;
+                k += 1;
+                i += 1;
+            }
         }
     }
     map[k] = line.len() as u16;
@@ -96,14 +84,14 @@ pub fn copy_into(content: &[u8], copy: &mut [u8]) -> usize
     // by runs and breaks
     while i < content.len() {
         lines.seek_at(i);
-        let gone = any_cut_before(&lines, i);
-        if gone == 0 {
-            let run = &content[i..runs::plain_end(content, i + 1)];
-            copy[k..k + run.len()].copy_from_slice(run);
-            k += run.len();
-            i += run.len();
-        } else {
-            i += gone;
+        match any_cut_at(&lines, i) {
+            Some(gone) => i += gone,
+            None => {
+                let run = &content[i..runs::plain_end(content, i + 1)];
+                copy[k..k + run.len()].copy_from_slice(run);
+                k += run.len();
+                i += run.len();
+            }
         }
     }
     k

@@ -7,7 +7,7 @@ mod runs;
 ghost use Rattle.std.specs.Prelude.{◌≡◌, length};
 ghost use Rattle.refusal.specs.Answer.{told};
 ghost use Rattle.source.specs.Calls.{is_short, join_call, span_answer, copy_call};
-ghost use Rattle.source.specs.Verdicts.{join_verdict, copy_verdict};
+ghost use Rattle.source.specs.Verdicts.{fit_verdict, lines_verdict, join_verdict, copy_verdict};
 
 use ascii::Range;
 use lexer::Dialect;
@@ -20,6 +20,28 @@ pub fn is_short(line: &[u8], text_slots: usize, map_slots: usize) -> bool
     text_slots < line.len() || map_slots < line.len() + 1
 }
 
+// Refusals 1 to 3: the line's length and bytes, and the slots.
+#[tactic(auto, unfolding(crate::specs::Verdicts::fit_verdict))]
+pub fn check_fit(line: &[u8], text_slots: usize, map_slots: usize) -> Result<(), Refusal>
+    ensures { result ≡ fit_verdict line.now text_slots map_slots }
+{
+    refusal::check_text(line)?;
+    if is_short(line, text_slots, map_slots) {
+        return Err(Reason::ShortBuffer.at(0));
+    }
+    Ok(())
+}
+
+// Refusal 6: the physical lines.
+pub fn check_lines(dialect: Dialect, line: &[u8]) -> Result<(), Refusal>
+    ensures { result ≡ lines_verdict dialect.language dialect.prefix line.now }
+{
+    match validation::validate_logical_line(dialect, line) {
+        None => Ok(()),
+        Some(place) => Err(Reason::InvalidLine.at(place)),
+    }
+}
+
 #[tactic(auto, unfolding(crate::specs::Verdicts::join_verdict))]
 fn judge_join(
     dialect: Dialect,
@@ -29,18 +51,13 @@ fn judge_join(
 ) -> Result<(), Refusal>
     ensures { result ≡ join_verdict dialect.language dialect.prefix line.now text_slots map_slots }
 {
-    refusal::check_text(line)?;
-    if is_short(line, text_slots, map_slots) {
-        return Err(Reason::ShortBuffer.at(0));
-    }
-    match validation::validate_logical_line(dialect, line) {
-        None => Ok(()),
-        Some(place) => Err(Reason::InvalidLine.at(place)),
-    }
+    check_fit(line, text_slots, map_slots)?;
+    check_lines(dialect, line)
 }
 
 // Join alone: the text of a logical line and its map, each at the front of its slots and zeros behind, and the text's length;
-// on a refusal all slots are zero.
+// on a refusal all slots are zero. Text and map are two parameters, here and wherever they are lent: the calls for C lend them apart, and a struct of both
+// would be taken apart at once.
 pub fn join_line(
     dialect: Dialect,
     line: &[u8],
@@ -80,6 +97,7 @@ pub fn map_back(map: &[u16], text_len: usize, start: usize, end: usize) -> Resul
     })
 }
 
+// Refusals 1 to 3 of a copy. Beside `check_fit`: which slots are short is all that differs, and a closure for it would be no plainer.
 #[tactic(auto, unfolding(crate::specs::Verdicts::copy_verdict))]
 fn judge_copy(content: &[u8], slots: usize) -> Result<(), Refusal>
     ensures { result ≡ copy_verdict content.now slots }

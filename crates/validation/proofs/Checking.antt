@@ -3,14 +3,13 @@
 use Prim.Native.Nat.{ℕ, zero, suc, ◌+◌, ◌-◌, ◌<◌, ◌≤◌}
 use native.Mathlib.Nat.{add-zero}
 use native.Mathlib.Omega.{arith}
-use mathlib.Core.Bool.{Bool, true, false, cond, ◌&&◌}
+use mathlib.Core.Bool.{Bool, cond, ◌&&◌}
 use Rattle.std.specs.Prelude.{Some, None}
 use mathlib.Core.Path.{◌≡◌, refl, sym, ap, ◌∙◌}
 use mathlib.Core.List.{List, [], ◌∷◌}
 use lib.ListN.{length, take, drop, get_or, length-drop, drop_of_length-le}
 use lib.Seq.{drop-cons, drop-drop, length-take-le}
 use lib.Dec.{ltb, leb}
-use borrow.Author.Tests.{le-leb, lt-leb}
 use Rattle.std.proofs.lemmas.List.{take_rest}
 use Rattle.ascii.specs.Ascii.{is_blank}
 use Rattle.ascii.specs.Text.{leading, is_blank_text}
@@ -93,14 +92,8 @@ module _ (l : Language) (p : Prefix) (s : List ℕ) (at end tail n : ℕ) (order
   blank : is_blank_text (drop n (drop end s)) ≡ leb tail (end + n)
   blank = rw found (blank-rest s end n (omega (arith, rw take_rest at fits, length-drop end s)))
 
-  pub end-blank : tail ≤ end + n → check_end l p at line (drop end s) ≡ Fine
-  end-blank h = rw (over-not s end within, read, blank, le-leb tail (end + n) h)
-
-  pub end-next : end + n < tail → continued l p line ≡ true → check_end l p at line (drop end s) ≡ Next (end - at + n)
-  end-next h c = rw (over-not s end within, read, blank, lt-leb tail (end + n) h, c, size)
-
-  pub end-wrong : end + n < tail → continued l p line ≡ false → check_end l p at line (drop end s) ≡ WrongAt end
-  end-wrong h c = rw (over-not s end within, read, blank, lt-leb tail (end + n) h, c, size, here)
+  pub end-told : check_end l p at line (drop end s) ≡ cond (leb tail (end + n)) Fine (cond (continued l p line) (Next (end - at + n)) (WrongAt end))
+  end-told = rw (over-not s end within, read, blank, size, here)
 
 -- the check of the physical line at a place, in the places that the code reads at
 pub check-at : (l : Language) (p : Prefix) (s : List ℕ) (at end : ℕ) (later : Bool) → end ≡ at + line_length (drop at s)

@@ -48,10 +48,6 @@ ends-trimmed b s (suc n) e =
     let here : get_or (drop k (reverse s)) 0 0 ≡ get_or s n 0 = get_or-drop k (reverse s) 0 0 ∙ rw (add-zero, get_or-reverse s k 0 (omega arith), m) refl in
     rw (take-suc s n 0 (omega arith), reverse-append (take n s) (get_or s n 0 ∷ [])) (ap (λ x. eqb x b) here)
 
--- what stands after a line
-module _ (s : List ℕ) (i : ℕ) where
-  pub over-end : length s ≤ i → is_over (drop i s) ≡ true
-  over-end h = rw (drop_of_length-le s h)
-
-  pub over-not : i < length s → is_over (drop i s) ≡ false
-  over-not h = rw (drop-cons s i 0)
+-- more text stands after a line
+pub over-not : (s : List ℕ) (i : ℕ) → i < length s → is_over (drop i s) ≡ false
+over-not s i h = rw (drop-cons s i 0)

@@ -6,11 +6,12 @@ ghost use Rattle.ascii.specs.Text.{starts};
 ghost use Rattle.validation.specs.declared.Quoting.TheVariants.{Outside};
 ghost use Rattle.validation.specs.Validation.{opened as opened_by, after_byte, is_inside, code_length, ends_in, unindented, continued_f, continued as continued_in, foreign_f, foreign as foreign_in, eol_bytes, check_end, check_line, fault, blank_from, Onward};
 
-use ascii::sets::{Blank, InLine};
+use ascii::sets::{Blank, InLine, Trimmed};
 use lexer::{Dialect, Language, Prefix, continuation};
 
 // What a physical line, with all that follows it, says of the whole: all is well, a fault at a place,
-// or well as far as the next physical line, so many bytes on. No Result of an Option: a fault is what the search answers, so no `?` would hand it on.
+// or well as far as the next physical line, so many bytes on. No Result of an Option: the search answers with the fault, so that its `?` would turn an error
+// into an answer.
 #[derive(Clone, Copy, Debug, PartialEq, Eq)]
 pub enum Checked {
     Fine,
@@ -84,7 +85,7 @@ fn is_last(b: u8, text: &[u8]) -> bool
 fn ends_in_marker(text: &[u8]) -> bool
     ensures { result ≡ ends_in 38 text.now }
 {
-    is_last(b'&', &text[..ascii::trimmed_end(text)])
+    is_last(b'&', &text[..ascii::run_start::<Trimmed>(text)])
 }
 
 // A physical line without its indentation.
@@ -100,7 +101,7 @@ fn continued_f(prefix: Prefix, line: &[u8]) -> bool
     ensures { result ≡ continued_f prefix line.now }
 {
     let rest = unindented(line);
-    let content = &rest[continuation::sentinel_ended(rest, prefix)..];
+    let content = &rest[continuation::sentinel_ended(rest, prefix).unwrap_or(0)..];
     ends_in_marker(&content[..code_length(content)])
 }
 
@@ -120,7 +121,7 @@ fn foreign_f(prefix: Prefix, line: &[u8]) -> bool
 {
     let rest = unindented(line);
     let own = continuation::sentinel_ended(rest, prefix);
-    0 < continuation::sentinel_any(rest) && own == 0
+    continuation::sentinel_any(rest).is_some() && own.is_none()
 }
 
 fn foreign(dialect: Dialect, line: &[u8]) -> bool
@@ -132,7 +133,8 @@ fn foreign(dialect: Dialect, line: &[u8]) -> bool
     }
 }
 
-// The bytes of the end of line that a text begins with; none of a lone CR.
+// The bytes of the end of line that a text begins with; none of a lone CR, which the lexer's `eol` counts and which is a fault here. One function for both
+// would need a flag, and be no plainer.
 fn eol_bytes(rest: &[u8]) -> Option<usize>
     ensures value { result ≡ eol_bytes rest.now }
     ensures within { IfSome result (λ n. (0 < n) × (n ≤ length rest.now)) }

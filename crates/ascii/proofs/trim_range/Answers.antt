@@ -7,7 +7,7 @@ pub returns-then-start-text-clause-value : goal.returns-then-start-text-clause-v
 returns-then-start-text-clause-value c = sym (trimmed-blank 0 c.args.text.now (omega arith))
 
 pub returns-clause-value : goal.returns-clause-value
-returns-clause-value c = (trimmed-ends c.args.text.now _ _ c.run_end-start.ensures.value c.trimmed_end-end.ensures c.if-start-text.false).0
+returns-clause-value c = (trimmed-ends c.args.text.now _ _ c.run_end-start.ensures.value c.run_start-end.ensures.value c.if-start-text.false).0
 
 pub returns-clause-start_le_end : goal.returns-clause-start_le_end
-returns-clause-start_le_end c = (trimmed-ends c.args.text.now _ _ c.run_end-start.ensures.value c.trimmed_end-end.ensures c.if-start-text.false).1
+returns-clause-start_le_end c = (trimmed-ends c.args.text.now _ _ c.run_end-start.ensures.value c.run_start-end.ensures.value c.if-start-text.false).1

@@ -1,7 +1,7 @@
 -- Question 2 of a byte is answered by its class.
-use Rattle.std.proofs.Common.{rules}
+use Rattle.std.proofs.Common.{rules, ◌∙◌}
 use Rattle.ascii.proofs.Classes.{told}
 use Rattle.ascii.proofs.class.is_blank.Goals as goal
 
 pub returns : goal.returns
-returns c = rw c.class_of.ensures (told 2 c.args.b (search rules))
+returns c = c.is_white.ensures ∙ told 2 c.args.b (search rules)

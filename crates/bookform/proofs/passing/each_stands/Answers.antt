@@ -13,7 +13,7 @@ loop-b-preserved c =
     let swap : 1 + i ≡ i + 1 = omega arith in
     let byte : get_or (take (length name - 1) (drop 1 name)) i 0 ≡ get_or name (i + 1) 0 =
     get_or-take (length name - 1) (drop 1 name) i 0 (omega arith) ∙ get_or_after_one name i 0 ∙ rw swap in
-    let t = sym c.stands_behind.ensures ∙ c.if-not-stands_behind.false in
+    let t = sym c.one_stands.ensures ∙ c.if-not-one_stands.false in
     let back : i + 1 - 1 ≡ i = omega arith in
     let next = standing-next c.args.between name 1 (i + 1) (rw back (rw l.0 at l.1)) (rw back (rw (byte, l.0) at t)) l.2 in
     (byte, rw byte next.0, next.1)

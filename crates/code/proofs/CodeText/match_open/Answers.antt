@@ -14,8 +14,8 @@ returns-in-Err-Deep-clause-value c =
     let e = rw (c.in-Err-Deep.is, c.in-Err-Deep.field-0-is) at c.take.ensures in
     sym (match-deep _ _ _ _ c.loop-i-test.true (sym e)) ∙ c.loop-i.invariant.same
 
-pub returns-then-is_empty-clause-value : goal.returns-then-is_empty-clause-value
-returns-then-is_empty-clause-value c =
+pub returns-in-Ok-clause-value : goal.returns-in-Ok-clause-value
+returns-in-Ok-clause-value c =
     let e = rw c.in-Ok.is at c.take.ensures in
     sym (match-closed _ _ _ _ c.loop-i-test.true _ (sym e) (sym c.is_empty.ensures ∙ c.if-is_empty.true)) ∙ c.loop-i.invariant.same
 

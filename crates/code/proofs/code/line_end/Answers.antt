@@ -1,9 +1,8 @@
 -- `code::line_end`: the run of the line's bytes, and the byte that ends it where there is one.
-use Rattle.code.proofs.Laws.{line-more, line-all}
+use Rattle.std.proofs.Common.{◌+◌, ℕ, ap, sym, ◌∙◌, drop}
+use Rattle.ascii.specs.Ascii.{is_eol}
+use Rattle.ascii.proofs.Texts.{up-to}
 use Rattle.code.proofs.code.line_end.Goals as goal
 
-pub returns-then-end-text-clause-value : goal.returns-then-end-text-clause-value
-returns-then-end-text-clause-value c = line-more _ _ _ c.run_end-end.ensures.value c.if-end-text.true
-
-pub returns-else-end-text-clause-value : goal.returns-else-end-text-clause-value
-returns-else-end-text-clause-value c = line-all _ _ _ c.run_end-end.ensures.value c.if-end-text.false
+pub returns-clause-value : goal.returns-clause-value
+returns-clause-value c = c.past_run.ensures.value ∙ ap (λ (n : ℕ). c.args.from + n) (sym (up-to is_eol (drop c.args.from c.args.text.now)))

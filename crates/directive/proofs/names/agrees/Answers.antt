@@ -41,8 +41,7 @@ loop-x-preserved-then-how-is_space c =
     record {
       within = l.invariant.within;
       solid = l.invariant.solid;
-      alike = sym (name-blank h.heads h.compact (comparing (h.ignore_case || h.compact)) c.args.candidate.now l.j c.args.name.now l.x-index n l.invariant.within
-          l.invariant.solid c.if-how-x.false (rw c.is_space.ensures at c.if-how-is_space.true)) ∙ l.invariant.alike;
+      alike = sym (name-blank h.heads h.compact _ _ _ _ _ n l.invariant.within l.invariant.solid c.if-how-x.false (rw c.is_space.ensures at c.if-how-is_space.true)) ∙ l.invariant.alike;
     }
 
 pub returns-then-used : goal.returns-then-used
@@ -54,9 +53,8 @@ returns-then-used c =
     let b = rw c.is_space.ensures at c.if-how-is_space.false in
     gives h.heads h.compact h.ignore_case c.args.name.now c.args.candidate.now _ _ _ l.invariant.alike
     (elim c.then-used.branch [
-      | then-used-via-then-used w ↦ name-alone h.heads h.compact f c.args.candidate.now l.j c.args.name.now l.x-index n l.invariant.within l.invariant.solid
-          c.if-how-x.false b (eq-eqb l.j (length c.args.candidate.now) w.if-used.true)
-      | then-used-via-else-used+then-not-same_byte w ↦ rw (sym w.same_byte.ensures ∙ w.if-not-same_byte.true) at (name-other h.heads h.compact f c.args.candidate.now l.j c.args.name.now l.x-index n l.invariant.within l.invariant.solid
+      | then-used-via-then-used w ↦ name-alone h.heads h.compact f _ _ _ _ n l.invariant.within l.invariant.solid c.if-how-x.false b (eq-eqb l.j (length c.args.candidate.now) w.if-used.true)
+      | then-used-via-else-used+then-not-same_byte w ↦ rw (sym w.same_byte.ensures ∙ w.if-not-same_byte.true) at (name-other h.heads h.compact f _ _ _ _ n l.invariant.within l.invariant.solid
           c.if-how-x.false b (ne_eqb l.j (length c.args.candidate.now) w.if-used.false))
     ])
 
@@ -70,7 +68,7 @@ loop-x-preserved c =
     let e = c.solid_from-j-in-loop-x.ensures.value in
     let n : l.x-index < length c.args.name.now = omega arith in
     let b = rw c.is_space.ensures at c.if-how-is_space.false in
-    let o = rw (sym c.same_byte.ensures ∙ c.if-not-same_byte.false) at (name-other h.heads h.compact f s l.j c.args.name.now l.x-index n l.invariant.within l.invariant.solid
+    let o = rw (sym c.same_byte.ensures ∙ c.if-not-same_byte.false) at (name-other h.heads h.compact f _ _ _ _ n l.invariant.within l.invariant.solid
     c.if-how-x.false b (ne_eqb l.j (length s) c.if-used.false)) in
     record {
       within = c.solid_from-j-in-loop-x.ensures.lower_bound.1;
@@ -84,4 +82,4 @@ returns c =
     let h = c.args.how in
     let n : length c.args.name.now ≤ l.x-index = omega arith in
     gives h.heads h.compact h.ignore_case c.args.name.now c.args.candidate.now _ _ _ l.invariant.alike
-    (name-end h.heads h.compact (comparing (h.ignore_case || h.compact)) c.args.candidate.now l.j c.args.name.now l.x-index n l.invariant.within l.invariant.solid)
+    (name-end _ _ _ _ _ _ _ n l.invariant.within l.invariant.solid)

@@ -9,25 +9,25 @@ pub loop-i-init : goal.loop-i-init
 unfolding skip
 loop-i-init c = (omega arith, omega arith, refl)
 
-pub returns-in-None-clause-value : goal.returns-in-None-clause-value
-returns-in-None-clause-value c =
-    let e : trivia_of c.args.fortran (drop c.loop-i.i c.args.text.now) ≡ None = rw take_rest at (sym c.trivia_of.ensures.value ∙ c.in-None.is) in
-    rw c.at.ensures (sym (skip-open _ _ _ c.loop-i-test.true e) ∙ c.loop-i.invariant.2)
-
-pub returns-in-Some-eq0-clause-value : goal.returns-in-Some-eq0-clause-value
-returns-in-Some-eq0-clause-value c =
-    let e : trivia_of c.args.fortran (drop c.loop-i.i c.args.text.now) ≡ Some 0 =
-    rw (take_rest, c.in-Some-eq0.field-0-test) at (sym c.trivia_of.ensures.value ∙ c.in-Some-eq0.is) in
-    sym (skip-none _ _ _ c.loop-i-test.true e) ∙ c.loop-i.invariant.2
-
 pub loop-i-preserved : goal.loop-i-preserved
 loop-i-preserved c =
-    let e : trivia_of c.args.fortran (drop c.loop-i.i c.args.text.now) ≡ Some c.in-Some.n = rw take_rest at (sym c.trivia_of.ensures.value ∙ c.in-Some.is) in
-    let within : c.loop-i.i + c.in-Some.n ≤ length c.args.text.now = omega (arith, rw take_rest at c.in-Some.ensures.fits, length-drop {A = ℕ}) in (
+    let e : trivia_of c.args.fortran (drop c.loop-i.i c.args.text.now) ≡ Some c.in-Ok-Some.n = rw (take_rest, c.in-Ok-Some.is, c.in-Ok-Some.field-0-is) at c.trivia_of.ensures.value in
+    let fits = rw (take_rest, c.in-Ok-Some.is, c.in-Ok-Some.field-0-is) at c.trivia_of.ensures.fits in
+    let within : c.loop-i.i + c.in-Ok-Some.n ≤ length c.args.text.now = omega (arith, fits, length-drop {A = ℕ}) in (
       omega arith,
       within,
-      sym (skip-run _ _ c.loop-i.i c.in-Some.n within e c.in-Some.n-test.1) ∙ c.loop-i.invariant.2,
+      sym (skip-run _ _ c.loop-i.i c.in-Ok-Some.n within e (λ z. absurd (omega (arith, z, fits)))) ∙ c.loop-i.invariant.2,
     )
+
+pub returns-in-Ok-None-clause-value : goal.returns-in-Ok-None-clause-value
+returns-in-Ok-None-clause-value c =
+    let e : trivia_of c.args.fortran (drop c.loop-i.i c.args.text.now) ≡ Some 0 = rw (take_rest, c.in-Ok-None.is, c.in-Ok-None.field-0-is) at c.trivia_of.ensures.value in
+    sym (skip-none _ _ _ c.loop-i-test.true e) ∙ c.loop-i.invariant.2
+
+pub returns-in-Err-clause-value : goal.returns-in-Err-clause-value
+returns-in-Err-clause-value c =
+    let e : trivia_of c.args.fortran (drop c.loop-i.i c.args.text.now) ≡ None = rw (take_rest, c.in-Err.is) at c.trivia_of.ensures.value in
+    rw c.at.ensures (sym (skip-open _ _ _ c.loop-i-test.true e) ∙ c.loop-i.invariant.2)
 
 pub returns-clause-value : goal.returns-clause-value
 returns-clause-value c = sym (skip-end _ _ _ c.loop-i-test.false) ∙ c.loop-i.invariant.2

@@ -7,10 +7,6 @@ pub returns-then-not-is_suited : goal.returns-then-not-is_suited
 unfolding line_verdict
 returns-then-not-is_suited c = rw (c.at.ensures, sym c.is_suited.ensures ∙ c.if-not-is_suited.true)
 
-pub returns-in-None : goal.returns-in-None
+pub returns : goal.returns
 unfolding line_verdict
-returns-in-None c = rw (sym c.is_suited.ensures ∙ c.if-not-is_suited.false, sym c.validate_logical_line.ensures ∙ c.in-None.is)
-
-pub returns-in-Some : goal.returns-in-Some
-unfolding line_verdict
-returns-in-Some c = rw (c.at-in-Some.ensures, sym c.is_suited.ensures ∙ c.if-not-is_suited.false, sym c.validate_logical_line.ensures ∙ c.in-Some.is)
+returns c = c.check_lines.ensures ∙ rw (sym c.is_suited.ensures ∙ c.if-not-is_suited.false)

@@ -1,18 +1,19 @@
 -- `read_up_to` meets its contract: the first that refuses, or the clauses in their slots.
 use Rattle.std.proofs.Common.{◌+◌, ◌≤◌, arith, rules, length, sym, ap, ◌∙◌}
 use Rattle.std.proofs.lemmas.Result.{err_from_is_err_and}
+use Rattle.ascii.proofs.Slots.{zeros-behind}
 use Rattle.refusal.specs.Answer.{refused_by, told}
 use Rattle.clause.specs.Calls.{SequenceCall}
 use Rattle.reader.proofs.Checking.{line-call, line-book}
-use Rattle.reader.proofs.Settled.{within-refused, started-for, clauses-refused, line-done, zeros-behind}
+use Rattle.reader.proofs.Settled.{within-refused, clauses-refused, line-done}
 use Rattle.reader.proofs.line.read_up_to.Goals as goal
 
 pub returns-in_err-check_fit : goal.returns-in_err-check_fit
 returns-in_err-check_fit c =
     let a = c.args in
     let p = err_from_is_err_and c.from_residual.result c.from_residual.ensures.1 in
-    rw (p.1, p.2) (within-refused a.dialect.language a.dialect.prefix a.book.now a.line.now a.slots (length a.text.now) (length a.map.now) (length a.records.now) c.in_err-check_fit.field-0.0
-    (line-call a.dialect.language a.dialect.prefix a.book.now a.line.now (length a.text.now) (length a.map.now) a.slots c.in_err-check_fit.field-0.0 (sym c.check_fit.ensures ∙ c.in_err-check_fit.was)))
+    rw (p.1, p.2) (within-refused a.dialect.language a.dialect.prefix a.book.now a.line.now (length a.records.now) (length a.text.now) (length a.map.now) (length a.records.now) c.in_err-check_fit.field-0.0
+    (line-call a.dialect.language a.dialect.prefix a.book.now a.line.now (length a.text.now) (length a.map.now) (length a.records.now) c.in_err-check_fit.field-0.0 (sym c.check_fit.ensures ∙ c.in_err-check_fit.was)))
 
 pub returns-in_err-book : goal.returns-in_err-book
 returns-in_err-book c =
@@ -20,8 +21,8 @@ returns-in_err-book c =
     let r = c.in_err-book.field-0.0 in
     let p = err_from_is_err_and c.from_residual-in_err-book.result c.from_residual-in_err-book.ensures.1 in
     let h = rw c.in_err-book.was at c.checked.ensures in
-    rw (p.1, p.2) (within-refused a.dialect.language a.dialect.prefix a.book.now a.line.now a.slots (length a.text.now) (length a.map.now) (length a.records.now) r
-    (line-book a.dialect.language a.dialect.prefix a.book.now a.line.now (length a.text.now) (length a.map.now) a.slots r r.place (sym c.check_fit.ensures ∙ c.in_ok-check_fit.was) h.1 (ap refused_by (sym h.0))))
+    rw (p.1, p.2) (within-refused a.dialect.language a.dialect.prefix a.book.now a.line.now (length a.records.now) (length a.text.now) (length a.map.now) (length a.records.now) r
+    (line-book a.dialect.language a.dialect.prefix a.book.now a.line.now (length a.text.now) (length a.map.now) (length a.records.now) r r.place (sym c.check_fit.ensures ∙ c.in_ok-check_fit.was) h.1 (ap refused_by (sym h.0))))
 
 pub returns-in_err-head : goal.returns-in_err-head
 returns-in_err-head c =
@@ -29,13 +30,11 @@ returns-in_err-head c =
     let p = err_from_is_err_and c.from_residual-in_err-head.result c.from_residual-in_err-head.ensures.1 in
     let h = rw c.in_err-head.was at c.head_of_fit.ensures in
     let b = rw c.in_ok-book.was at c.checked.ensures in
-    rw (p.1, p.2) (within-refused a.dialect.language a.dialect.prefix a.book.now a.line.now a.slots (length a.text.now) (length a.map.now) (length a.records.now) c.in_err-head.field-0.0
+    rw (p.1, p.2) (within-refused a.dialect.language a.dialect.prefix a.book.now a.line.now (length a.records.now) (length a.text.now) (length a.map.now) (length a.records.now) c.in_err-head.field-0.0
     (rw (b, c.head_of_fit.auto.text, c.head_of_fit.auto.map) at h))
 
 pub read_from-requires : goal.read_from-requires
-read_from-requires c =
-    let h = rw c.in_ok-head.was at c.head_of_fit.ensures in
-    started-for c.in_ok-book.book.bytes.now _ c.args.slots (length c.args.records.now) c.in_ok-head.head.start c.requires h.heads.started
+read_from-requires c = (rw c.in_ok-head.was at c.head_of_fit.ensures).heads.started
 
 pub returns-in_err-end : goal.returns-in_err-end
 returns-in_err-end c =
@@ -44,8 +43,8 @@ returns-in_err-end c =
     let h = rw c.in_ok-head.was at c.head_of_fit.ensures in
     let b = rw c.in_ok-book.was at c.checked.ensures in
     let e = sym (ap told c.in_err-end.was) ∙ ap (λ (k : SequenceCall). k.answer) c.read_from.ensures in
-    rw (p.1, p.2) (within-refused a.dialect.language a.dialect.prefix a.book.now a.line.now a.slots (length a.text.now) (length a.map.now) (length a.records.now) c.in_err-end.field-0.0
-    (rw (b, c.head_of_fit.auto.text, c.head_of_fit.auto.map) at (clauses-refused a.dialect.language a.dialect.prefix c.in_ok-book.book.bytes.now a.line.now a.slots c.head_of_fit.new.text c.head_of_fit.new.map
+    rw (p.1, p.2) (within-refused a.dialect.language a.dialect.prefix a.book.now a.line.now (length a.records.now) (length a.text.now) (length a.map.now) (length a.records.now) c.in_err-end.field-0.0
+    (rw (b, c.head_of_fit.auto.text, c.head_of_fit.auto.map) at (clauses-refused a.dialect.language a.dialect.prefix c.in_ok-book.book.bytes.now a.line.now (length a.records.now) c.head_of_fit.new.text c.head_of_fit.new.map
     c.in_ok-head.head h c.in_err-end.field-0.0 e)))
 
 pub returns : goal.returns
@@ -59,5 +58,5 @@ returns c =
     let e = rw c.in_ok-end.was at c.read_from.ensures in
     let l : n + 1 ≤ length m = omega (arith, h.within.1) in
     rw c.reading.ensures
-    (line-done a.dialect.language a.dialect.prefix c.in_ok-book.book.bytes.now a.line.now a.slots t m c.in_ok-head.head h (length a.records.now) (length a.text.now) (length a.map.now) a.book.now _ _
-    c.read_from.new.records c.in_ok-end.end b c.head_of_fit.auto.text c.head_of_fit.auto.map e (zeros-behind t c.fill.new.self n h.within.0 (search rules)) (zeros-behind m c.fill-2.new.self (n + 1) l (search rules)))
+    (line-done a.dialect.language a.dialect.prefix c.in_ok-book.book.bytes.now a.line.now (length a.records.now) t m c.in_ok-head.head h (length a.records.now) (length a.text.now) (length a.map.now) a.book.now _ _
+    c.read_from.new.records c.in_ok-end.end b c.head_of_fit.auto.text c.head_of_fit.auto.map e (zeros-behind 0 t c.fill.new.self n h.within.0 (search rules)) (zeros-behind 0 m c.fill-2.new.self (n + 1) l (search rules)))

@@ -8,9 +8,9 @@ use Rattle.rulebook.proofs.CheckedBook.directive_names.Goals as goal
 pub invariant_of-listed : goal.invariant_of-listed
 invariant_of-listed c =
     let b = c.args.self.now in
-    record { laid = header-directives b.bytes.now b.header (valid-form b.bytes.now b.valid) b.header_read }
+    record { laid = header-directives _ _ (valid-form _ b.valid) b.header_read }
 
 pub returns : goal.returns
 returns c =
     let b = c.args.self.now in
-    c.names.ensures ∙ ap (map (λ (e : Entry). e.name)) (sym (book-directives b.bytes.now b.header b.header_read))
+    c.names.ensures ∙ ap (map (λ (e : Entry). e.name)) (sym (book-directives _ _ b.header_read))

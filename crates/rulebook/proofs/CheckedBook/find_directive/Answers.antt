@@ -7,14 +7,14 @@ use Rattle.rulebook.proofs.CheckedBook.find_directive.Goals as goal
 pub invariant_of-listed : goal.invariant_of-listed
 invariant_of-listed c =
     let b = c.args.self.now in
-    record { laid = header-directives b.bytes.now b.header (valid-form b.bytes.now b.valid) b.header_read }
+    record { laid = header-directives _ _ (valid-form _ b.valid) b.header_read }
 
 pub returns-in_err-found : goal.returns-in_err-found
 returns-in_err-found c =
     let b = c.args.self.now in
-    c.from_residual.ensures ∙ sym (directive-index b.bytes.now b.header b.header_read c.args.name.now ∙ ap index_of (sym c.look_up.ensures ∙ c.in_err-found.was))
+    c.from_residual.ensures ∙ sym (directive-index _ _ b.header_read _ ∙ ap index_of (sym c.look_up.ensures ∙ c.in_err-found.was))
 
 pub returns : goal.returns
 returns c =
     let b = c.args.self.now in
-    sym (directive-index b.bytes.now b.header b.header_read c.args.name.now ∙ ap index_of (sym c.look_up.ensures ∙ c.in_ok-found.was))
+    sym (directive-index _ _ b.header_read _ ∙ ap index_of (sym c.look_up.ensures ∙ c.in_ok-found.was))

@@ -1,11 +1,10 @@
 -- `rulebook::repeats::repeat_among`: a turn has the next name; it repeats an earlier one, or the index tells of one entry more.
-use Rattle.std.proofs.Common.{◌≡◌, ℕ, true, false, ◌+◌, ◌-◌, length, inl, ap, sym, ◌∙◌, refl, arith}
-use Rattle.ascii.specs.Ascii.{fold}
+use Rattle.std.proofs.Common.{◌≡◌, ℕ, ◌+◌, ◌-◌, length, inl, ap, sym, ◌∙◌, refl, arith}
 use Rattle.ascii.specs.Text.{part}
+use Rattle.bookform.specs.Format.{lead_of}
 use Rattle.rulebook.specs.Book.{name_at, names_from, entries_from, place_after}
-use Rattle.rulebook.specs.Check.{is_named}
 use Rattle.rulebook.specs.Signature.{signature}
-use Rattle.rulebook.proofs.Laying.{length-names, named-turn, names-end, place-snoc}
+use Rattle.rulebook.proofs.Laying.{lead-small, length-names, named-turn, names-end, place-snoc}
 use Rattle.rulebook.proofs.Repeating.{repeat-here, repeat-later, repeat-none}
 use Rattle.rulebook.proofs.Indexing.{indexed-none, indexed-next}
 use Rattle.rulebook.proofs.repeats.repeat_among.Goals as goal
@@ -15,86 +14,80 @@ unfolding place_after entries_from
 loop-number-init c =
     let e = c.args.listed.entries in
     let bs = c.args.listed.book.now in
-    let z : c.into_iter-number-iterator.result.count ≡ 0 = cc in
-    let i : c.into_iter-number-iterator.result.iter ≡ names_from e.lead e.count e.first bs = cc in
+    let it = c.into_iter-number-iterator.result in
+    let z : it.count ≡ 0 = cc in
+    let i : it.iter ≡ names_from (lead_of e.kind) e.count e.first bs = cc in
     let n : e.count - 0 ≡ e.count = omega arith in
-    let k : length c.into_iter-number-iterator.result.iter ≡ e.count = ap length i ∙ length-names e.lead bs e.count e.first in (
-      (tt, tt, inl (omega (arith, z, k))),
-      tt,
-      omega (arith, z),
-      rw (z, n) c.args.listed.laid,
-      rw (z, n) i,
-      rw z,
-      omega arith,
-      omega arith,
-      rw z (indexed-none e.lead e.first bs c.args.index.now c.requires.lead_bound.0 c.requires.blank),
-      rw (z, n),
-    )
+    let k : length it.iter ≡ e.count = ap length i ∙ length-names (lead_of e.kind) bs e.count e.first in
+    record {
+      can_next = (tt, tt, inl (omega (arith, z, k)));
+      is_finite = tt;
+      within = omega (arith, z);
+      laid = rw (z, n) c.args.listed.laid;
+      names = rw (z, n) i;
+      place = rw z;
+      lower_bound = omega arith;
+      upper_bound = omega arith;
+      indexed = rw z (indexed-none (lead_of e.kind) e.first bs c.args.index.now (lead-small e.kind) c.requires.blank);
+      repeats = rw (z, n);
+    }
 
 pub first-requires : goal.first-requires
 first-requires c =
-    let e = c.args.listed.entries in
-    let l = c.loop-number in
+    let i = c.loop-number.invariant in
     let s = c.in-Some.ensures.steps in
-    let t = named-turn e.lead c.args.listed.book.now (e.count - l.number-iterator.count) l.at c.in-Some.name.now c.next.new.self.iter l.invariant.3 (sym l.invariant.4 ∙ s.0) in
+    let t = named-turn _ _ _ _ _ _ i.laid (sym i.names ∙ s.0) in
     omega (arith, t.more, s.1)
 
 pub returns-then-is_repeat : goal.returns-then-is_repeat
 returns-then-is_repeat c =
-    let e = c.args.listed.entries in
-    let bs = c.args.listed.book.now in
-    let l = c.loop-number in
-    let d = l.number-iterator.count in
+    let i = c.loop-number.invariant in
     let s = c.in-Some.ensures.steps in
-    let t = named-turn e.lead bs (e.count - d) l.at c.in-Some.name.now c.next.new.self.iter l.invariant.3 (sym l.invariant.4 ∙ s.0) in
-    let h : is_named fold (part bs (name_at e.lead l.at bs)) (entries_from e.lead d e.first bs) ≡ true =
-    rw (c.first.ensures.entries, c.first.ensures.book, t.named, s.1) at (sym c.is_repeat.ensures ∙ c.if-is_repeat.true) in
-    sym l.invariant.9 ∙ repeat-here e.lead bs (e.count - d) (e.count - d - 1) l.at (name_at e.lead l.at bs) t.more refl (entries_from e.lead d e.first bs) h
+    let t = named-turn _ _ _ _ _ _ i.laid (sym i.names ∙ s.0) in
+    let h = rw (c.first.ensures.entries, c.first.ensures.book, t.named, s.1) at (sym c.is_repeat.ensures ∙ c.if-is_repeat.true) in
+    rw c.at.ensures (refl, sym i.repeats ∙ repeat-here _ _ _ _ _ _ t.more refl _ h)
 
 pub overflow_add-at-in-loop-number-2 : goal.overflow_add-at-in-loop-number-2
 overflow_add-at-in-loop-number-2 c =
-    let e = c.args.listed.entries in
-    let l = c.loop-number in
-    let s = c.in-Some.ensures.steps in
-    let t = named-turn e.lead c.args.listed.book.now (e.count - l.number-iterator.count) l.at c.in-Some.name.now c.next.new.self.iter l.invariant.3 (sym l.invariant.4 ∙ s.0) in
-    omega (arith, t.ends, t.inside)
+    let i = c.loop-number.invariant in
+    let t = named-turn _ _ _ _ _ _ i.laid (sym i.names ∙ c.in-Some.ensures.steps.0) in
+    omega (arith, c.lead-lead.ensures, t.ends, t.inside)
 
 pub loop-number-preserved : goal.loop-number-preserved
 loop-number-preserved c =
     let e = c.args.listed.entries in
     let bs = c.args.listed.book.now in
+    let lead = lead_of e.kind in
     let l = c.loop-number in
+    let i = l.invariant in
     let d = l.number-iterator.count in
     let s = c.in-Some.ensures.steps in
-    let t = named-turn e.lead bs (e.count - d) l.at c.in-Some.name.now c.next.new.self.iter l.invariant.3 (sym l.invariant.4 ∙ s.0) in
-    let k : length c.next.new.self.iter ≡ e.count - d - 1 = ap length t.left ∙ length-names e.lead bs (e.count - d - 1) (name_at e.lead l.at bs).end in
+    let t = named-turn _ _ _ _ _ _ i.laid (sym i.names ∙ s.0) in
+    let ends : l.at + (c.lead-lead.result + 1 + length c.in-Some.name.now) ≡ (name_at lead l.at bs).end = rw c.lead-lead.ensures t.ends in
+    let k : length c.next.new.self.iter ≡ e.count - d - 1 = ap length t.left ∙ length-names lead bs (e.count - d - 1) (name_at lead l.at bs).end in
     let w : e.count - c.next.new.self.count ≡ e.count - d - 1 = omega (arith, s.2) in
-    let h : is_named fold (part bs (name_at e.lead l.at bs)) (entries_from e.lead d e.first bs) ≡ false =
-    rw (c.first.ensures.entries, c.first.ensures.book, t.named, s.1) at (sym c.is_repeat.ensures ∙ c.if-is_repeat.false) in
-    let mark : c.signature-mark.result ≡ signature (part bs (name_at e.lead (place_after e.lead d e.first bs) bs)) =
-    c.signature-mark.ensures.value ∙ ap signature (t.named ∙ ap (λ (p : ℕ). part bs (name_at e.lead p bs)) l.invariant.5) in (
-      (tt, tt, inl (omega (arith, s.2, k, t.more))),
-      tt,
-      omega (arith, s.2, t.more),
-      rw (w, t.ends) t.laid,
-      rw (w, t.ends) t.left,
-      t.ends
-          ∙ ap (λ (p : ℕ). (name_at e.lead p bs).end) l.invariant.5
-          ∙ sym (place-snoc e.lead bs d e.first)
-          ∙ ap (λ (n : ℕ). place_after e.lead n e.first bs) (sym s.2),
-      omega (arith, l.invariant.6),
-      omega (arith, t.ends, s.2, c.requires.bytes (l.at + e.lead), l.invariant.7, c.requires.lead_bound),
-      rw (s.2, s.1, l.invariant.5)
-          (indexed-next e.lead e.first bs l.index d c.signature-mark.result (omega (arith, t.more)) (omega arith) (omega arith) c.signature-mark.ensures.upper_bound mark l.invariant.8),
-      rw (w, s.2, t.ends)
-          (sym (repeat-later e.lead bs (e.count - d) (e.count - d - 1) l.at (name_at e.lead l.at bs) t.more refl d e.first l.invariant.5 h) ∙ l.invariant.9),
-    )
+    let h = rw (c.first.ensures.entries, c.first.ensures.book, t.named, s.1) at (sym c.is_repeat.ensures ∙ c.if-is_repeat.false) in
+    let mark : c.signature-mark.result ≡ signature (part bs (name_at lead (place_after lead d e.first bs) bs)) =
+    c.signature-mark.ensures.value ∙ ap signature (t.named ∙ ap (λ (p : ℕ). part bs (name_at lead p bs)) i.place) in
+    record {
+      can_next = (tt, tt, inl (omega (arith, s.2, k, t.more)));
+      is_finite = tt;
+      within = omega (arith, s.2, t.more);
+      laid = rw (w, ends) t.laid;
+      names = rw (w, ends) t.left;
+      place = ends ∙ ap (λ (p : ℕ). (name_at lead p bs).end) i.place ∙ sym (place-snoc lead bs d e.first) ∙ ap (λ (n : ℕ). place_after lead n e.first bs) (sym s.2);
+      lower_bound = omega arith;
+      upper_bound = omega (arith, ends, s.2, c.requires.bytes (l.at + lead), c.requires.few, lead-small e.kind);
+      indexed = rw (s.2, s.1, i.place)
+          (indexed-next lead e.first bs l.index d c.signature-mark.result (omega (arith, t.more)) (omega arith) (omega arith) c.signature-mark.ensures.upper_bound mark i.indexed);
+      repeats = rw (w, s.2, ends) (sym (repeat-later _ _ _ _ _ _ t.more refl d e.first i.place h) ∙ i.repeats);
+    }
 
 pub returns : goal.returns
 returns c =
     let e = c.args.listed.entries in
     let l = c.loop-number in
-    let i = c.in-None.ensures.steps.0.0 in
-    let n : e.count - l.number-iterator.count ≡ 0 = names-end e.lead c.args.listed.book.now (e.count - l.number-iterator.count) l.at (sym l.invariant.4 ∙ i) in
+    let i = l.invariant in
+    let n : e.count - l.number-iterator.count ≡ 0 = names-end (lead_of e.kind) c.args.listed.book.now (e.count - l.number-iterator.count) l.at (sym i.names ∙ c.in-None.ensures.steps.0.0) in
     let d : l.number-iterator.count ≡ e.count = omega (arith, n) in
-    (sym (rw (repeat-none, n) at l.invariant.9), rw d at l.invariant.8, rw d at l.invariant.5)
+    (sym (rw (repeat-none, n) at i.repeats), rw d at i.indexed, rw d at i.place)

@@ -1,6 +1,7 @@
 -- `rulebook::repeats::repeat_among`: the entries that are left repeat, after those that are done, what all of them repeat, and the index tells of
 -- those that are done.
 use Rattle.std.proofs.Common.{◌≡◌, [], ◌+◌, ◌-◌, ◌*◌, ◌≤◌}
+use Rattle.bookform.specs.Format.{lead_of}
 use Rattle.rulebook.specs.Book.{Laid, names_from, entries_from, place_after}
 use Rattle.rulebook.specs.Check.{repeat_from}
 use Rattle.rulebook.specs.Index.{Indexed}
@@ -9,14 +10,19 @@ use Rattle.rulebook.proofs.repeats.repeat_among.Given as goal
 abbrev pub invariant-loop-number : goal.invariant-loop-number
 invariant-loop-number l =
     let e = l.listed.entries in
+    let lead = lead_of e.kind in
+    let bs = l.listed.book.now in
     let done = l.number-iterator.count in
-    (goal.iterator-loop-number).can_next l.number-iterator
-    × (goal.iterator-loop-number).is_finite l.number-iterator
-    × (done ≤ e.count)
-    × Laid e.lead (e.count - done) l.at l.listed.book.now
-    × (l.number-iterator.iter ≡ names_from e.lead (e.count - done) l.at l.listed.book.now)
-    × (l.at ≡ place_after e.lead done e.first l.listed.book.now)
-    × (e.first ≤ l.at)
-    × (l.at ≤ e.first + done * 257)
-    × Indexed e.lead e.first done l.listed.book.now l.index
-    × (repeat_from (entries_from e.lead done e.first l.listed.book.now) (entries_from e.lead (e.count - done) l.at l.listed.book.now) ≡ repeat_from [] (entries_from e.lead e.count e.first l.listed.book.now))
+    let left = e.count - done in
+    record {
+      can_next : (goal.iterator-loop-number).can_next l.number-iterator;
+      is_finite : (goal.iterator-loop-number).is_finite l.number-iterator;
+      within : done ≤ e.count;
+      laid : Laid lead left l.at bs;
+      names : l.number-iterator.iter ≡ names_from lead left l.at bs;
+      place : l.at ≡ place_after lead done e.first bs;
+      lower_bound : e.first ≤ l.at;
+      upper_bound : l.at ≤ e.first + done * 257;
+      indexed : Indexed lead e.first done bs l.index;
+      repeats : repeat_from (entries_from lead done e.first bs) (entries_from lead left l.at bs) ≡ repeat_from [] (entries_from lead e.count e.first bs);
+    }

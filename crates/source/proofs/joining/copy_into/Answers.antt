@@ -8,14 +8,14 @@ use Rattle.source.proofs.Kept.{kept-jump, kept-end}
 use Rattle.source.proofs.Staying.{stays-first, copied}
 use Rattle.source.proofs.joining.copy_into.Goals as goal
 
-pub loop-i-preserved-then-gone-eq0 : goal.loop-i-preserved-then-gone-eq0
-loop-i-preserved-then-gone-eq0 c =
+pub loop-i-preserved : goal.loop-i-preserved
+loop-i-preserved c =
     let t = c.args.content.now in
     let i = c.loop-i.i in
     let end = c.plain_end.result in
     let run = take (end - i) (drop i t) in
     let same = c.seek_at.ensures ∙ c.loop-i.invariant.text in
-    let none = sym c.if-gone-eq0.true ∙ rw same at c.any_cut_before-gone.ensures.value in
+    let none = rw same at (sym c.any_cut_at.ensures.value ∙ c.in-None.is) in
     let s : Stays t i end = stays-first t i end c.loop-i-test.true none c.plain_end.ensures in
     let o : i ≤ end = s.ordered in
     let w : end ≤ length t = s.within in
@@ -29,15 +29,15 @@ loop-i-preserved-then-gone-eq0 c =
       text = same;
     }
 
-pub loop-i-preserved : goal.loop-i-preserved
-loop-i-preserved c =
+pub loop-i-preserved-in-Some : goal.loop-i-preserved-in-Some
+loop-i-preserved-in-Some c =
     let same = c.seek_at.ensures ∙ c.loop-i.invariant.text in
-    let cut = rw same at c.any_cut_before-gone.ensures.value in
-    let fits = rw same at c.any_cut_before-gone.ensures.result_in_bounds in
+    let cut = rw same at (sym c.any_cut_at.ensures.value ∙ c.in-Some.is) in
+    let fits = rw same at c.in-Some.ensures.within in
     record {
       behind = omega arith;
       within = omega arith;
-      copy = rw (← kept-jump any_cut, c.loop-i-test.true, cut, c.if-gone-eq0.false) c.loop-i.invariant.copy;
+      copy = rw (← kept-jump any_cut, c.loop-i-test.true, cut) c.loop-i.invariant.copy;
       text = same;
     }
 

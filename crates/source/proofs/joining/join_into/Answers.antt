@@ -7,11 +7,10 @@ use Rattle.source.specs.Joining.{joined_text, joined_map}
 use Rattle.source.proofs.Kept.{kept_next, kept-jump, kept-end}
 use Rattle.source.proofs.joining.join_into.Goals as goal
 
-pub loop-i-preserved-then-stays : goal.loop-i-preserved-then-stays
-loop-i-preserved-then-stays c =
+pub loop-i-preserved : goal.loop-i-preserved
+loop-i-preserved c =
     let l = c.loop-i in
-    let cut = rw c.lines_of-lines.ensures at c.cut_before-gone.ensures.value in
-    let none = sym c.if-stays.true ∙ cut in
+    let none = rw c.lines_of-lines.ensures at (sym c.cut_at.ensures.value ∙ c.in-None.is) in
     let a : l.k < length l.text = omega arith in
     let b : l.k < length l.map = omega arith in
     record {
@@ -21,16 +20,16 @@ loop-i-preserved-then-stays c =
       map = rw pushed (rw (kept_next, c.loop-i-test.true, none) at l.invariant.map);
     }
 
-pub loop-i-preserved : goal.loop-i-preserved
-loop-i-preserved c =
+pub loop-i-preserved-in-Some : goal.loop-i-preserved-in-Some
+loop-i-preserved-in-Some c =
     let l = c.loop-i in
-    let cut = rw c.lines_of-lines.ensures at c.cut_before-gone.ensures.value in
-    let fits = rw c.lines_of-lines.ensures at c.cut_before-gone.ensures.result_in_bounds in
+    let cut = rw c.lines_of-lines.ensures at (sym c.cut_at.ensures.value ∙ c.in-Some.is) in
+    let fits = rw c.lines_of-lines.ensures at c.in-Some.ensures.within in
     record {
       behind = omega arith;
       within = omega arith;
-      text = rw (← kept-jump, c.loop-i-test.true, cut, c.if-stays.false) l.invariant.text;
-      map = rw (← kept-jump, c.loop-i-test.true, cut, c.if-stays.false) l.invariant.map;
+      text = rw (← kept-jump, c.loop-i-test.true, cut) l.invariant.text;
+      map = rw (← kept-jump, c.loop-i-test.true, cut) l.invariant.map;
     }
 
 pub returns-clause-count : goal.returns-clause-count

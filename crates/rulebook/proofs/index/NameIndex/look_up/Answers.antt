@@ -1,6 +1,6 @@
 -- `rulebook::index::NameIndex::look_up`: where no name repeats another, the last entry with a name is the first.
 use Rattle.std.proofs.Common.{◌∙◌}
-use Rattle.rulebook.proofs.Indexing.{last-is-first}
+use Rattle.rulebook.proofs.LastNamed.{last-is-first}
 use Rattle.rulebook.proofs.index.NameIndex.look_up.Goals as goal
 
 pub returns : goal.returns

@@ -16,22 +16,19 @@ name_at-range-requires c =
 
 pub slice_bounds-result-end : goal.slice_bounds-result-end
 slice_bounds-result-end c =
-    let s = c.self.inside in
-    let m : s.left ≡ s.left - 1 + 1 = omega arith in
-    let n = laid_next s.lead s.book.now s.left (s.left - 1) s.at c.name_at-range.result m c.name_at-range.ensures c.self.invariant in
+    let m : c.self.inside.left ≡ c.self.inside.left - 1 + 1 = omega arith in
+    let n = laid_next _ _ _ _ _ _ m c.name_at-range.ensures c.self.invariant in
     omega (arith, n.0, n.1)
 
 pub invariant_of-self : goal.invariant_of-self
 invariant_of-self c =
-    let s = c.self.inside in
-    let m : s.left ≡ s.left - 1 + 1 = omega arith in
-    (laid_next s.lead s.book.now s.left (s.left - 1) s.at c.name_at-range.result m c.name_at-range.ensures c.self.invariant).2
+    let m : c.self.inside.left ≡ c.self.inside.left - 1 + 1 = omega arith in
+    (laid_next _ _ _ _ _ _ m c.name_at-range.ensures c.self.invariant).2
 
 pub returns-clause-steps : goal.returns-clause-steps
 returns-clause-steps c =
-    let s = c.self.inside in
-    let m : s.left ≡ s.left - 1 + 1 = omega arith in
-    sym c.self.view_is ∙ names_next s.lead s.book.now s.left (s.left - 1) s.at c.name_at-range.result m c.name_at-range.ensures
+    let m : c.self.inside.left ≡ c.self.inside.left - 1 + 1 = omega arith in
+    sym c.self.view_is ∙ names_next _ _ _ _ _ _ m c.name_at-range.ensures
 
 pub returns-clause-goes : goal.returns-clause-goes
 returns-clause-goes c = rw (returns-clause-steps c) (search rules)
