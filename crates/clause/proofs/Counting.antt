@@ -41,7 +41,7 @@ stays_all bk t s j (suc k) (suc n) d e =
     let m = stays bk t (state_at bk t s n) l.1 in
     (m.0 ∙ l.0, m.1)
 
-module _ (bk t : List ℕ) (s₀ : SequenceState) (n : ℕ) (started : Started bk t n s₀) where
+module _ (bk t : List ℕ) (s₀ : SequenceState) (n : ℕ) (started : Started t n s₀) where
   pub counts : (r : Result SequenceEnd Refusal) → r ≡ answer_of (next_state bk t (state_at bk t s₀ n)) → told r ≡ and_then (read_on bk t s₀) (λ s. given (counted s))
   counts r e =
       let zs = records_from bk t s₀ 0 n in

@@ -9,5 +9,4 @@ pub mod Starting
 pub mod Few
 pub mod Counting
 pub mod Extents
-pub mod Cleanness
 pub mod Reading

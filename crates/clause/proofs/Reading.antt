@@ -65,9 +65,9 @@ no-comma-is f t at p e b = let again = skip-again f t at p (sym e) in rw (← e,
 
 -- under a book that was checked its header tells what the book does
 module _ (bk : List ℕ) (h : Header) (e : h ≡ header_of bk) where
-  pub start_is : (t : List ℕ) (left at : ℕ) (k : Result ℕ Refusal) → k ≡ skip h.ignores_case t at → begun_at t left k ≡ start_at bk t left at
+  pub start_is : (t : List ℕ) (left at : ℕ) (k : Result ℕ Refusal) → k ≡ skip h.ignores_case t at → begun_at left k ≡ start_at bk t left at
   unfolding start_at
-  start_is t left at k q = rw (book-case bk h e) (ap (begun_at t left) q)
+  start_is t left at k q = rw (book-case bk h e) (ap (begun_at left) q)
 
   pub judged-by : (b : Bool) (x y : SequenceState) → is_unsupported h.default_rule ≡ b → cond b x y ≡ cond (is_unsupported (book_of bk).default) x y
   judged-by b x y u = rw (book-default bk h e, u)
@@ -85,7 +85,7 @@ supported Unsupported n = absurd (n refl)
 
 -- one step, where the sequence goes on and where it does not
 module _ (bk t : List ℕ) (s : SequenceState) where
-  pub clause-inside : Ready bk t s → (c : ClauseRead) → Ok c ≡ clause_at (book_of bk) t s.at → c.end ≤ length t
+  pub clause-inside : Ready t s → (c : ClauseRead) → Ok c ≡ clause_at (book_of bk) t s.at → c.end ≤ length t
   clause-inside ready c e = (rw (sym e) at (clause-ends (book_of bk) t s.at ready.inside)).1
 
   pub goes : is_going s.progress ≡ true → onward (book_of bk) t s Going ≡ next_state bk t s

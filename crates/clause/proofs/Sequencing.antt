@@ -57,7 +57,7 @@ data Stepped (bk t : List ℕ) (p : Progress) (a : Answer Sequence) (s s' : Sequ
   over : s'.progress ≡ Ended → s'.clause ≡ zero_record → s'.count ≡ s.count → a ≡ given (record { clauses = []; rest = s'.at }) → Stepped bk t p a s s'
   shut : (r : Refusal) → s'.progress ≡ Refused r → a ≡ refused_by r → Stepped bk t p a s s'
 
-module _ (bk t : List ℕ) (s : SequenceState) (ready : Ready bk t s) where
+module _ (bk t : List ℕ) (s : SequenceState) (ready : Ready t s) where
   abbrev book : Book
   book = book_of bk
 
@@ -99,12 +99,12 @@ module _ (bk t : List ℕ) (s : SequenceState) (ready : Ready bk t s) where
   step-at false [] e d = let n = sym (length-drop s.at t) ∙ ap length d in absurd (omega (arith, eqb-false s.at (length t) e, ready.inside))
   step-at false (x ∷ xs) e d = step-read x xs d
 
-stepped_by : (bk t : List ℕ) (s : SequenceState) (p : Progress) → WhenGoing p (Ready bk t s) → Stepped bk t p (read_from bk t s p) s (onward (book_of bk) t s p)
+stepped_by : (bk t : List ℕ) (s : SequenceState) (p : Progress) → WhenGoing p (Ready t s) → Stepped bk t p (read_from bk t s p) s (onward (book_of bk) t s p)
 stepped_by bk t s Going ready = step-at bk t s ready (eqb s.at (length t)) (drop s.at t) refl refl
 stepped_by bk t s Ended h = over refl refl refl refl
 stepped_by bk t s (Refused r) h = shut r refl refl
 
-stepped : (bk t : List ℕ) (s : SequenceState) → Proper bk t s → Stepped bk t s.progress (read_on bk t s) s (next_state bk t s)
+stepped : (bk t : List ℕ) (s : SequenceState) → Proper t s → Stepped bk t s.progress (read_on bk t s) s (next_state bk t s)
 unfolding next_state
 stepped bk t s h = stepped_by bk t s s.progress h
 
@@ -152,7 +152,7 @@ module _ (bk t : List ℕ) where
   records-first s i zero = refl
   records-first s i (suc n) = rw (state-first s (suc i), records-first s (suc i) n) refl
 
-  fulfilled : (n : ℕ) (s : SequenceState) → Proper bk t s → WhenGoing s.progress (s.left ≤ n) → Fulfils (next_state bk t (state_at bk t s n)) (records_from bk t s 0 n) n s.count (read_on bk t s)
+  fulfilled : (n : ℕ) (s : SequenceState) → Proper t s → WhenGoing s.progress (s.left ≤ n) → Fulfils (next_state bk t (state_at bk t s n)) (records_from bk t s 0 n) n s.count (read_on bk t s)
   unfolding state_at records_from
   fulfilled zero s h room = last_step bk t s.progress (read_on bk t s) s (next_state bk t s) (stepped bk t s h) room
   fulfilled (suc n) s h room =
@@ -191,7 +191,7 @@ settle last rs n (refused m p) l h r us e g =
     let u : us ≡ replicate (n - 0) zero_record = rw z (rw (o, l) at g) in
     rw (o, u, h.2, h.3) refl
 
-pub settles : (bk t : List ℕ) (s : SequenceState) (n : ℕ) → Started bk t n s → (r : Result SequenceEnd Refusal) (rs us : List ClauseRecord)
+pub settles : (bk t : List ℕ) (s : SequenceState) (n : ℕ) → Started t n s → (r : Result SequenceEnd Refusal) (rs us : List ClauseRecord)
     → r ≡ answer_of (next_state bk t (state_at bk t s n)) → rs ≡ records_from bk t s 0 n → us ≡ left_by r rs
     → ◌≡◌ {A = SequenceCall} (record { answer = told r; records = us }) (settled n (read_on bk t s))
 settles bk t s n started r rs us e₁ e₂ e₃ =

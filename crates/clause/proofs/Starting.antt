@@ -22,23 +22,22 @@ use Rattle.clause.specs.declared.SequenceEnd.{SequenceEnd}
 use Rattle.clause.specs.Clause.{zero_record}
 use Rattle.clause.specs.Sequence.{Sequence, sequence_at}
 use Rattle.clause.specs.Calls.{SequenceCall, counted, sequence_call, Admits}
-use Rattle.clause.proofs.Cleanness.{clean_end}
 use Rattle.clause.specs.Steps.{Started, begun_at, start_at, read_on, settled}
 
 module _ (bk t : List ℕ) (left at : ℕ) where
   -- a start behind trivia
-  begun-started : (k : Result ℕ Refusal) → length t ≤ max_length → at ≤ length t → skip (book_of bk).ignores_case t at ≡ k → Started bk t left (begun_at t left k)
+  begun-started : (k : Result ℕ Refusal) → length t ≤ max_length → at ≤ length t → skip (book_of bk).ignores_case t at ≡ k → Started t left (begun_at left k)
   begun-started (Ok p) l h e =
       let b = skip-bounds (book_of bk).ignores_case t at p e in
-      record { proper = record { short = l; inside = omega arith; fewer = omega arith; clean = clean_end (book_of bk).ignores_case t }; room = omega arith; none_yet = refl }
+      record { proper = record { short = l; inside = omega arith; fewer = omega arith }; room = omega arith; none_yet = refl }
   begun-started (Err r) l h e = record { proper = tt; room = omega arith; none_yet = refl }
 
-  pub started-at : length t ≤ max_length → at ≤ length t → Started bk t left (start_at bk t left at)
+  pub started-at : length t ≤ max_length → at ≤ length t → Started t left (start_at bk t left at)
   unfolding start_at
   started-at l h = begun-started (skip (book_of bk).ignores_case t at) l h refl
 
   -- what is read from there
-  begun-reads : (k : Result ℕ Refusal) → skip (book_of bk).ignores_case t at ≡ k → read_on bk t (begun_at t left k) ≡ sequence_at (book_of bk) t left at
+  begun-reads : (k : Result ℕ Refusal) → skip (book_of bk).ignores_case t at ≡ k → read_on bk t (begun_at left k) ≡ sequence_at (book_of bk) t left at
   unfolding sequence_at
   begun-reads (Ok p) e = rw (sequence_at, e) refl
   begun-reads (Err r) e = rw (sequence_at, e) refl

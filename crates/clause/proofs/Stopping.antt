@@ -52,8 +52,8 @@ empty-onward book t s (Refused r) = λ e. refl
 -- its own next state
 still-same : (s : SequenceState) (p : Progress) → s.progress ≡ p → s.clause ≡ zero_record → still s p ≡ s
 still-same s p e z =
-    ap (λ (r : ClauseRecord). record { clause = r; progress = p; at = s.at; comma = s.comma; left = s.left; count = s.count; clean = s.clean }) (sym z)
-    ∙ ap (λ (q : Progress). record { clause = s.clause; progress = q; at = s.at; comma = s.comma; left = s.left; count = s.count; clean = s.clean }) (sym e)
+    ap (λ (r : ClauseRecord). record { clause = r; progress = p; at = s.at; comma = s.comma; left = s.left; count = s.count }) (sym z)
+    ∙ ap (λ (q : Progress). record { clause = s.clause; progress = q; at = s.at; comma = s.comma; left = s.left; count = s.count }) (sym e)
 
 module _ (bk t : List ℕ) where
   empty-next : (s : SequenceState) → Empty (next_state bk t s)

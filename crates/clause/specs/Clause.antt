@@ -10,7 +10,6 @@ use Rattle.refusal.specs.Verdict.{refusal_at}
 use Rattle.code.specs.declared.CommentStyle.{CommentStyle}
 use Rattle.code.specs.declared.CommentStyle.TheVariants.{CLike, Fortran}
 use Rattle.code.specs.declared.NoMatch.{NoMatch}
-use Rattle.code.specs.Code.{scan_at}
 use Rattle.code.specs.Matching.{matching}
 use Rattle.lexer.specs.Trivia.{skip}
 use Rattle.bookform.specs.declared.ClauseRule.{ClauseRule}
@@ -111,8 +110,3 @@ pub record WordIn (text : List ℕ) (start end : ℕ) : Type 0 where
   pub short : length text ≤ max_length
   pub some_bytes : start < end
   pub inside : end ≤ length text
-
--- from a place of a text on no literal or comment is unclosed
-pub record Clean (fortran : Bool) (text : List ℕ) (at : ℕ) : Type 0 where
-  pub within : at ≤ length text
-  pub nothing : (scan_at (style fortran) text at).fault ≡ None

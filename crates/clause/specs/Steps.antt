@@ -15,18 +15,18 @@ use Rattle.clause.specs.declared.SequenceEnd.{SequenceEnd}
 use Rattle.clause.specs.declared.Progress.{Progress}
 use Rattle.clause.specs.declared.Progress.TheVariants.{Going, Ended, Refused}
 use Rattle.clause.specs.declared.SequenceState.{SequenceState}
-use Rattle.clause.specs.Clause.{Read, clause_at, zero_record, Clean}
+use Rattle.clause.specs.Clause.{Read, clause_at, zero_record}
 use Rattle.clause.specs.Sequence.{Sequence, separated, flagged, is_unsupported, sequence_from, sequence_at}
 use Rattle.clause.specs.Calls.{SequenceCall, counted}
 
 -- the state at the same place, with no record for the slot of this step
 abbrev pub still : SequenceState → Progress → SequenceState
-still s p = record { clause = zero_record; progress = p; at = s.at; comma = s.comma; left = s.left; count = s.count; clean = s.clean }
+still s p = record { clause = zero_record; progress = p; at = s.at; comma = s.comma; left = s.left; count = s.count }
 
 abbrev pub stopped : SequenceState → Refusal → SequenceState
 stopped s r = still s (Refused r)
 
--- past a clause and its separator: "preceded-by-comma, trailing comma". From where on nothing is unclosed is a matter of speed alone.
+-- past a clause and its separator: "preceded-by-comma, trailing comma"
 abbrev pub gone : ℕ → SequenceState → ClauseRead → Separation → SequenceState
 gone size s c n = record {
   clause = flagged c.clause s.comma (n.comma && eqb n.next size);
@@ -35,7 +35,6 @@ gone size s c n = record {
   comma = n.comma;
   left = s.left - 1;
   count = s.count + 1;
-  clean = cond c.clause.parenthesized c.end s.clean;
 }
 
 -- row 8 between and after clauses
@@ -77,39 +76,38 @@ unfolding state_at
 records_from book text s i zero = []
 records_from book text s i (suc n) = (state_at book text s (suc i)).clause ∷ records_from book text s (suc i) n
 
--- what a state that goes on rests on: a place of a text that is not too long, and another from which on nothing is unclosed
-pub record Ready (book text : List ℕ) (s : SequenceState) : Type 0 where
+-- what a state that goes on rests on: a place of a text that is not too long
+pub record Ready (text : List ℕ) (s : SequenceState) : Type 0 where
   pub short : length text ≤ max_length
   pub inside : s.at ≤ length text
   pub fewer : s.count ≤ s.at
-  pub clean : Clean (book_of book).ignores_case text s.clean
 
 abbrev pub WhenGoing : Progress → Type 0 → Type 0
 WhenGoing Going P = P
 WhenGoing Ended P = Unit {0}
 WhenGoing (Refused r) P = Unit {0}
 
-abbrev pub Proper : List ℕ → List ℕ → SequenceState → Type 0
-Proper book text s = WhenGoing s.progress (Ready book text s)
+abbrev pub Proper : List ℕ → SequenceState → Type 0
+Proper text s = WhenGoing s.progress (Ready text s)
 
 -- a state from which so many slots are filled: no more clauses than slots, none counted yet
-pub record Started (book text : List ℕ) (size : ℕ) (s : SequenceState) : Type 0 where
-  pub proper : Proper book text s
+pub record Started (text : List ℕ) (size : ℕ) (s : SequenceState) : Type 0 where
+  pub proper : Proper text s
   pub room : s.left ≤ size
   pub none_yet : s.count ≡ 0
 
-abbrev pub begun : Progress → ℕ → ℕ → ℕ → SequenceState
-begun p at left clean = record { clause = zero_record; progress = p; at = at; comma = false; left = left; count = 0; clean = clean }
+abbrev pub begun : Progress → ℕ → ℕ → SequenceState
+begun p at left = record { clause = zero_record; progress = p; at = at; comma = false; left = left; count = 0 }
 
--- behind the trivia; row 8 before the first clause. Behind the end of a text nothing is unclosed.
-abbrev pub begun_at : List ℕ → ℕ → Result ℕ Refusal → SequenceState
-begun_at text left (Ok p) = begun Going p left (length text)
-begun_at text left (Err r) = begun (Refused r) r.place left (length text)
+-- behind the trivia; row 8 before the first clause
+abbrev pub begun_at : ℕ → Result ℕ Refusal → SequenceState
+begun_at left (Ok p) = begun Going p left
+begun_at left (Err r) = begun (Refused r) r.place left
 
 -- the start at a place of a text, into so many slots, under a valid book
 unfoldable pub start_at : List ℕ → List ℕ → ℕ → ℕ → SequenceState
 unfolding book_of skip
-start_at book text left at = begun_at text left (skip (book_of book).ignores_case text at)
+start_at book text left at = begun_at left (skip (book_of book).ignores_case text at)
 
 abbrev pub answer_by : SequenceState → Progress → Result SequenceEnd Refusal
 answer_by s Going = Ok (record { count = s.count; rest = s.at })

@@ -8,10 +8,14 @@ pub mod steps;
 
 ghost use Rattle.std.specs.Prelude.{◌≡◌, min, length};
 ghost use Rattle.refusal.specs.Answer.{told};
+ghost use Rattle.code.specs.Marks.{Marked};
+ghost use Rattle.rulebook.specs.Book.{book_of};
 ghost use Rattle.rulebook.specs.Index.{Fresh};
+ghost use Rattle.clause.specs.Clause.{style};
 ghost use Rattle.clause.specs.Calls.{Admits, SequenceCall, sequence_call};
 ghost use Rattle.clause.specs.Steps.{sequence_into};
 
+use code::MARK_CELLS;
 use refusal::Refusal;
 use rulebook::CheckedBook;
 use rulebook::index::Index;
@@ -35,11 +39,13 @@ pub struct ClauseRecord {
     pub trailing: bool,
 }
 
-// The clauses of a text under a book.
+// The clauses of a text under a book, with the marks of the text (`single::fill_marks`), so that the rest is not scanned anew for each clause.
 #[derive(Clone, Copy)]
 pub struct ClauseList<'a> {
     pub book: &'a CheckedBook<'a>,
     pub text: &'a [u8],
+    pub marks: &'a [u32],
+    pub ghost marked: { Marked (style (book_of book.now.bytes.now).ignores_case) text.now marks.now },
 }
 
 // How many clauses were read, and the place of the unread rest.
@@ -103,8 +109,6 @@ pub struct SequenceState {
     pub left: usize,
     // clauses read
     pub count: usize,
-    // a place from which on no literal or comment is unclosed, so that the rest is not scanned anew for each clause
-    pub clean: usize,
 }
 
 // An answer with its record slots, by value: of a sequence, or of a line.
@@ -139,8 +143,14 @@ pub fn parse_sequence(
     let mut index = Index::new();
     match admitted(book, text, &mut index) {
         Ok(book) => {
-            let list = ClauseList { book: &book, text };
-            let start = list.start_at(0, records.len());
+            let mut marks = [0; MARK_CELLS];
+            single::fill_marks(&book, text, &mut marks);
+            let list = ClauseList {
+                book: &book,
+                text,
+                marks: &marks,
+            };
+            let start = SequenceState::start_at(&book, text, 0, records.len());
             list.read_from(start, records)
         }
         Err(refusal) => {

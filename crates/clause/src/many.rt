@@ -5,14 +5,15 @@ ghost use Rattle.rulebook.specs.Judged.{Judged};
 ghost use Rattle.clause.specs.Calls.{counted, sequence_call};
 ghost use Rattle.clause.specs.Steps.{Started, read_on};
 
-use crate::{ClauseList, SequenceEnd, SequenceState};
+use crate::{ClauseList, SequenceEnd, SequenceState, single};
+use code::MARK_CELLS;
 use refusal::Refusal;
 use rulebook::CheckedBook;
 
 impl ClauseList<'_> {
     // The answer of the clauses from a state on, with so many slots. Each clause's record is made, and not kept.
     pub fn count_clauses(&self, start: SequenceState, slots: usize) -> Result<SequenceEnd, Refusal>
-        requires { Started self.now.book.now.bytes.now self.now.text.now slots start }
+        requires { Started self.now.text.now slots start }
         ensures { told result ≡ and_then (read_on self.now.book.now.bytes.now self.now.text.now start) (λ s. given (counted s)) }
     {
         let mut s = start;
@@ -39,8 +40,14 @@ pub fn sequence_answer(
     refusal::check_text(text)?;
     match book {
         Ok(book) => {
-            let list = ClauseList { book, text };
-            list.count_clauses(list.start_at(0, slots), slots)
+            let mut marks = [0; MARK_CELLS];
+            single::fill_marks(book, text, &mut marks);
+            let list = ClauseList {
+                book,
+                text,
+                marks: &marks,
+            };
+            list.count_clauses(SequenceState::start_at(book, text, 0, slots), slots)
         }
         Err(refusal) => Err(*refusal),
     }

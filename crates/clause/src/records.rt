@@ -19,7 +19,7 @@ impl ClauseList<'_> {
     // Every slot gets the record of its step, a zeroed one once the list has ended. The result is the state after the last.
     // The first step that does not go on is the last that is made: from there on nothing but zeroed records would come.
     fn fill_records(&self, start: SequenceState, records: &mut [ClauseRecord]) -> SequenceState
-        requires { Proper self.now.book.now.bytes.now self.now.text.now start }
+        requires { Proper self.now.text.now start }
         ensures state { result ≡ state_at self.now.book.now.bytes.now self.now.text.now start (length records.old) }
         ensures records { records.new ≡ records_from self.now.book.now.bytes.now self.now.text.now start 0 (length records.old) }
     {
@@ -42,7 +42,7 @@ impl ClauseList<'_> {
         start: SequenceState,
         records: &mut [ClauseRecord],
     ) -> Result<SequenceEnd, Refusal>
-        requires { Started self.now.book.now.bytes.now self.now.text.now (length records.old) start }
+        requires { Started self.now.text.now (length records.old) start }
         ensures { record { answer = told result; records = records.new }
             ≡ settled (length records.old) (read_on self.now.book.now.bytes.now self.now.text.now start) }
     {

@@ -1,10 +1,11 @@
 // One clause: its word, its entry and rule under the book, and its argument.
 ghost use Rattle.std.specs.Prelude.{◌≡◌, Option, Some, cond, suc, ◌≤◌, ◌<◌, length, drop, IfSome};
 ghost use Rattle.refusal.specs.Answer.{max_length};
+ghost use Rattle.code.specs.Marks.{Marked};
 ghost use Rattle.code.specs.Matching.{matching};
 ghost use Rattle.lexer.specs.Trivia.{skip};
 ghost use Rattle.rulebook.specs.Book.{book_of};
-ghost use Rattle.clause.specs.Clause.{style, word_record, bare_clause, closing, argument as argument_of, clause_at, WordIn, Clean};
+ghost use Rattle.clause.specs.Clause.{style, word_record, bare_clause, closing, argument as argument_of, clause_at, WordIn};
 ghost use Rattle.clause.specs.Sequence.{separated};
 
 use crate::{ClauseError, ClauseList, ClauseRead, ClauseRecord, Separation};
@@ -13,19 +14,19 @@ use ascii::sets::Word;
 use bookform::ClauseRule;
 use code::{CodeText, CommentStyle, NoMatch};
 use refusal::{Reason, Refusal};
+use rulebook::CheckedBook;
 
 // A clause's word in its text, and its entry in the book, if it has one.
 #[derive(Clone, Copy)]
 struct ClauseWord<'a> {
     text: &'a [u8],
     fortran: bool,
-    // a place from which on no literal or comment is unclosed
-    clean: usize,
+    marks: &'a [u32],
     start: usize,
     end: usize,
     entry: Option<u16>,
     ghost word: { WordIn text.now start end },
-    ghost rest: { Clean fortran text.now clean },
+    ghost marked: { Marked (style fortran) text.now marks.now },
 }
 
 // What a record tells C of a word without an entry.
@@ -48,6 +49,18 @@ fn style_of(fortran: bool) -> CommentStyle
     } else {
         CommentStyle::CLike
     }
+}
+
+// The marks of a text whose clauses are to be read under a book.
+pub fn fill_marks(book: &CheckedBook, text: &[u8], marks: &mut [u32])
+    requires { (length text.now ≤ max_length) × (length marks.old ≡ 513) }
+    ensures { Marked (style (book_of book.now.bytes.now).ignores_case) text.now marks.new }
+{
+    let code = CodeText {
+        text,
+        style: style_of(book.header.ignores_case),
+    };
+    code.fill_marks(marks);
 }
 
 impl ClauseWord<'_> {
@@ -91,7 +104,7 @@ impl ClauseWord<'_> {
             text: self.text,
             style: style_of(self.fortran),
         };
-        match code.match_from(inner, self.clean) {
+        match code.find_matching_parenthesis(inner, self.marks) {
             Ok(close) => {
                 let content = ascii::trim_between(self.text, inner, close);
                 Ok(ClauseRead {
@@ -134,11 +147,10 @@ impl ClauseWord<'_> {
 }
 
 impl ClauseList<'_> {
-    // The clause at a place of a text that is not too long, where nothing is unclosed from another place on.
-    pub fn read_clause(&self, at: usize, clean: usize) -> Result<ClauseRead, ClauseError>
+    // The clause at a place of a text that is not too long.
+    pub fn read_clause(&self, at: usize) -> Result<ClauseRead, ClauseError>
         requires short { length self.now.text.now ≤ max_length }
         requires inside { at ≤ length self.now.text.now }
-        requires clean { Clean (book_of self.now.book.now.bytes.now).ignores_case self.now.text.now clean }
         ensures { result ≡ clause_at (book_of self.now.book.now.bytes.now) self.now.text.now at }
     {
         let end = ascii::run_end::<Word>(self.text, at);
@@ -149,7 +161,7 @@ impl ClauseList<'_> {
         let word = ClauseWord {
             text: self.text,
             fortran: self.book.header.ignores_case,
-            clean,
+            marks: self.marks,
             start: at,
             end,
             entry: found.index,

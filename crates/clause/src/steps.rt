@@ -12,9 +12,10 @@ use crate::{
 };
 use bookform::ClauseRule;
 use refusal::{Reason, Refusal};
+use rulebook::CheckedBook;
 
-fn begun(progress: Progress, at: usize, slots: usize, clean: usize) -> SequenceState
-    ensures { result ≡ begun_of progress at slots clean }
+fn begun(progress: Progress, at: usize, slots: usize) -> SequenceState
+    ensures { result ≡ begun_of progress at slots }
 {
     SequenceState {
         clause: records::zero_record(),
@@ -23,7 +24,6 @@ fn begun(progress: Progress, at: usize, slots: usize, clean: usize) -> SequenceS
         comma: false,
         left: slots,
         count: 0,
-        clean,
     }
 }
 
@@ -68,12 +68,17 @@ impl SequenceState {
             comma: separation.comma,
             left: self.left - 1,
             count: self.count + 1,
-            // behind a parenthesis that has its match nothing is unclosed
-            clean: if read.clause.parenthesized {
-                read.end
-            } else {
-                self.clean
-            },
+        }
+    }
+
+    // The start at a place of a text, with so many slots.
+    pub fn start_at(book: &CheckedBook, text: &[u8], at: usize, slots: usize) -> SequenceState
+        requires { at ≤ length text.now }
+        ensures { result ≡ start_at_of book.now.bytes.now text.now slots at }
+    {
+        match lexer::trivia::skip(text, at, book.header.ignores_case) {
+            Ok(place) => begun(Progress::Going, place, slots),
+            Err(refusal) => begun(Progress::Refused(refusal), refusal.place, slots),
         }
     }
 
@@ -92,22 +97,6 @@ impl SequenceState {
 }
 
 impl ClauseList<'_> {
-    // The start at a place of the text, with so many slots.
-    pub fn start_at(&self, at: usize, slots: usize) -> SequenceState
-        requires { at ≤ length self.now.text.now }
-        ensures { result ≡ start_at_of self.now.book.now.bytes.now self.now.text.now slots at }
-    {
-        match lexer::trivia::skip(self.text, at, self.book.header.ignores_case) {
-            Ok(place) => begun(Progress::Going, place, slots, self.text.len()),
-            Err(refusal) => begun(
-                Progress::Refused(refusal),
-                refusal.place,
-                slots,
-                self.text.len(),
-            ),
-        }
-    }
-
     // The default rule judges a clause that fails.
     fn judged(&self, s: SequenceState, refusal: Refusal) -> SequenceState
         ensures { result ≡ cond (is_unsupported (book_of self.now.book.now.bytes.now).default) (stopped_of s refusal) (still_of s Progress.Ended) }
@@ -136,23 +125,23 @@ impl ClauseList<'_> {
 
     // One clause more, where the sequence goes on.
     fn onward(&self, s: SequenceState) -> SequenceState
-        requires { Ready self.now.book.now.bytes.now self.now.text.now s }
+        requires { Ready self.now.text.now s }
         ensures { result ≡ onward_of (book_of self.now.book.now.bytes.now) self.now.text.now s Progress.Going }
     {
         if s.at == self.text.len() {
             return s.still(Progress::Ended);
         }
-        match self.read_clause(s.at, s.clean) {
+        match self.read_clause(s.at) {
             Ok(read) => self.took(s, read),
             Err(ClauseError::Failed(refusal)) => self.judged(s, refusal),
             Err(ClauseError::Deep(place)) => s.stopped(Reason::TooDeep.at(place)),
         }
     }
 
-    // The state after one clause more; its record is for the next slot. `Proper`, here and where steps are made, tells of a book, a text and a state: a type
+    // The state after one clause more; its record is for the next slot. `Proper`, here and where steps are made, tells of a text and a state: a type
     // that holds it would be made anew at each step.
     pub fn next(&self, s: SequenceState) -> SequenceState
-        requires { Proper self.now.book.now.bytes.now self.now.text.now s }
+        requires { Proper self.now.text.now s }
         ensures { result ≡ next_state self.now.book.now.bytes.now self.now.text.now s }
     {
         if s.goes_on() {
@@ -164,7 +153,7 @@ impl ClauseList<'_> {
 
     // The answer, once a step more than there are slots has told whether a clause is left.
     pub fn finish(&self, s: SequenceState) -> Result<SequenceEnd, Refusal>
-        requires { Proper self.now.book.now.bytes.now self.now.text.now s }
+        requires { Proper self.now.text.now s }
         ensures { result ≡ answer_of (next_state self.now.book.now.bytes.now self.now.text.now s) }
     {
         self.next(s).answer()

@@ -17,7 +17,7 @@ use Rattle.code.specs.declared.Flags.{Flags}
 use Rattle.code.specs.Code.{has_escapes, hides_next, is_plain}
 use Rattle.code.specs.Marks.{clean, flags_at, marks_from, marked_from, is_dull, dulls}
 use Rattle.code.proofs.Laws.{drop_at}
-use Rattle.code.proofs.WalkLaws.{plain-parts, plain_code}
+use Rattle.code.proofs.FaultLaws.{plain-parts, plain_code}
 use Rattle.code.proofs.MarkLaws.{clean-code, quote-plain, block_goes, line-goes, ones, flag-code}
 
 -- four tests that all hold

@@ -1,7 +1,7 @@
 pub mod Laws
 pub mod Stack
 pub mod MatchLaws
-pub mod WalkLaws
+pub mod FaultLaws
 pub mod MarkLaws
 pub mod DullLaws
 pub mod Backslashes

@@ -5,7 +5,6 @@ pub mod brackets;
 pub mod code;
 pub mod marks;
 pub mod matching;
-pub mod walk;
 
 ghost use Rattle.std.specs.Prelude.{ℕ, ◌≤◌, List};
 ghost use Rattle.code.specs.Bracket.{stacked, max_depth};
@@ -108,6 +107,9 @@ pub struct Near {
     pub one: Flags,
     pub two: Flags,
 }
+
+// How many numbers the marks of the longest text take: one for each 32 places, and one for its end.
+pub const MARK_CELLS: usize = 513;
 
 // The marks of some places, the first in the lowest bit, with the flags at the first place.
 #[derive(Clone, Copy, Debug, PartialEq, Eq)]

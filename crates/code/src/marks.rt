@@ -1,5 +1,5 @@
-// The marks of a text: from which of its places on no literal or comment is unclosed, found in one walk from its back. Nothing asks them yet: they are for
-// sequences whose rest is scanned anew for each clause (docs/PORT.md).
+// The marks of a text: from which of its places on no literal or comment is unclosed, found in one walk from its back. Each match asks the mark of its place,
+// so that the rest is not scanned anew for each.
 ghost use Rattle.std.specs.Prelude.{◌≡◌, true, cond, ◌+◌, ◌/◌, ◌<◌, ◌≤◌, ◌⊎◌, length, eqb, get_or};
 ghost use Rattle.code.specs.Marks.{clean, quote_clean, block_clean, line_clean, past_end, flags_at, near_at, marked_from, Marked, is_dull, dulls};
 

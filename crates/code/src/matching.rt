@@ -2,6 +2,7 @@
 ghost use Rattle.std.specs.Prelude.{◌≡◌, [], ◌∷◌, ◌≤◌, length, drop};
 ghost use Rattle.code.specs.Code.{scan_at};
 ghost use Rattle.code.specs.Matching.{match_from, matching, Closes};
+ghost use Rattle.code.specs.Marks.{Marked};
 
 use crate::{Bracket, BracketError, CodeText, NoMatch, OpenBrackets};
 
@@ -31,15 +32,16 @@ impl CodeText<'_> {
         Err(NoMatch::Unmatched)
     }
 
-    // The match of a parenthesis that is open before a place; none where a literal or comment anywhere behind it has no end.
-    pub fn find_matching_parenthesis(&self, at: usize) -> Result<usize, NoMatch>
-        requires { at ≤ length self.now.text.now }
+    // The match of a parenthesis that is open before a place, by the marks of the text; none where a literal or comment anywhere behind it has no end.
+    pub fn find_matching_parenthesis(&self, at: usize, marks: &[u32]) -> Result<usize, NoMatch>
+        requires { (at ≤ length self.now.text.now) × Marked self.now.style self.now.text.now marks.now }
         ensures value { result ≡ matching self.now.style at (drop at self.now.text.now) }
         ensures closes { Closes at (length self.now.text.now) result }
     {
-        match self.first_unclosed(at) {
-            None => self.match_open(at),
-            Some(_) => Err(NoMatch::Unmatched),
+        if self.is_clean(marks, at) {
+            self.match_open(at)
+        } else {
+            Err(NoMatch::Unmatched)
         }
     }
 }

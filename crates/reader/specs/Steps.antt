@@ -37,7 +37,7 @@ behind name x = and_then x (λ s. given (record { name = name; sequence = s }))
 
 -- a head of a text of a book, from whose start on the answer is read
 pub record Heading (book text : List ℕ) (room : ℕ) (answer : Answer Parsed) (h : Head) : Type 0 where
-  pub started : Started book text room h.start
+  pub started : Started text room h.start
   pub reads : behind h.name (read_on book text h.start) ≡ answer
 
 -- the head of a joined text, with so many slots: all of it stands

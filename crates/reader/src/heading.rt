@@ -9,7 +9,7 @@ ghost use Rattle.source.specs.Verdicts.{fit_verdict};
 ghost use Rattle.reader.specs.Steps.{Heads, HeadGives, answered};
 
 use crate::{Reading, checks, opening};
-use clause::{ClauseList, SequenceEnd, SequenceState};
+use clause::{SequenceEnd, SequenceState};
 use directive::DirectiveName;
 use lexer::Dialect;
 use refusal::Refusal;
@@ -41,7 +41,7 @@ fn head_of(dialect: Dialect, book: &CheckedBook, text: &[u8], slots: usize) -> R
     Ok(Head {
         name,
         length: text.len(),
-        start: ClauseList { book, text }.start_at(name.end, slots),
+        start: SequenceState::start_at(book, text, name.end, slots),
     })
 }
 

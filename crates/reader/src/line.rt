@@ -4,7 +4,8 @@ ghost use Rattle.reader.specs.Calls.{line_call};
 ghost use Rattle.reader.specs.Steps.{Leaves};
 
 use crate::{Reading, heading};
-use clause::{ClauseList, ClauseRecord};
+use clause::{ClauseList, ClauseRecord, single};
+use code::MARK_CELLS;
 use lexer::Dialect;
 use refusal::Refusal;
 use rulebook::index::Index;
@@ -25,9 +26,13 @@ pub(crate) fn read_up_to(
     let mut index = Index::new();
     let book = rulebook::checked(book, &mut index)?;
     let head = heading::head_of_fit(dialect, &book, line, text, map, records.len())?;
+    let joined = &text[..head.length];
+    let mut marks = [0; MARK_CELLS];
+    single::fill_marks(&book, joined, &mut marks);
     let list = ClauseList {
         book: &book,
-        text: &text[..head.length],
+        text: joined,
+        marks: &marks,
     };
     let end = list.read_from(head.start, records)?;
     text[head.length..].fill(0);

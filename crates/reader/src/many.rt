@@ -5,7 +5,8 @@ ghost use Rattle.rulebook.specs.Judged.{Judged};
 ghost use Rattle.reader.specs.Calls.{line_call};
 
 use crate::{Reading, heading};
-use clause::ClauseList;
+use clause::{ClauseList, single};
+use code::MARK_CELLS;
 use lexer::Dialect;
 use refusal::Refusal;
 use rulebook::CheckedBook;
@@ -27,9 +28,13 @@ pub fn line_answer(
     match book {
         Ok(book) => {
             let head = heading::head_of_fit(dialect, book, line, text, map, slots)?;
+            let joined = &text[..head.length];
+            let mut marks = [0; MARK_CELLS];
+            single::fill_marks(book, joined, &mut marks);
             let list = ClauseList {
                 book,
-                text: &text[..head.length],
+                text: joined,
+                marks: &marks,
             };
             let end = list.count_clauses(head.start, slots)?;
             Ok(heading::reading(head.name, end))

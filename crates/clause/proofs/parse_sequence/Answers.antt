@@ -1,10 +1,13 @@
 -- `parse_sequence` meets its contract: behind the checks the clauses from the start of the text on, and else every slot zeroed.
-use Rattle.std.proofs.Common.{◌∙◌, ap, arith, length}
+use Rattle.std.proofs.Common.{◌∙◌, ap, refl, arith, length}
 use Rattle.refusal.proofs.Admission.{admits-length}
 use Rattle.clause.specs.Calls.{sequence_call}
 use Rattle.clause.specs.Steps.{read_on, settled}
 use Rattle.clause.proofs.Starting.{started-at, call-is, refused-is}
 use Rattle.clause.proofs.parse_sequence.Goals as goal
+
+pub fill_marks-requires : goal.fill_marks-requires
+fill_marks-requires c = (admits-length c.args.text.now c.in-Ok.ensures.1, refl)
 
 pub read_from-requires : goal.read_from-requires
 read_from-requires c =

@@ -14,7 +14,7 @@ invariant_of-word c =
     let some : c.run_end-end.result ≡ c.args.at → ⊥ = c.if-end-at.false in
     record {
       word = record { short = c.requires.short; some_bytes = omega (arith, some); inside = inside.1 };
-      rest = rw (book-case b.bytes.now b.header b.header_read) at c.requires.clean;
+      marked = rw (book-case b.bytes.now b.header b.header_read) at c.args.self.now.marked;
     }
 
 pub returns : goal.returns

@@ -1,5 +1,5 @@
 -- `sequence_answer` meets its contract: the verdicts on text and book, and then the clauses counted from the start on.
-use Rattle.std.proofs.Common.{◌∙◌, ap, sym, arith}
+use Rattle.std.proofs.Common.{◌∙◌, ap, refl, sym, arith}
 use Rattle.std.proofs.lemmas.Result.{err_from_is_err_and, MatchResult-at_ok, MatchResult-at_err}
 use Rattle.refusal.specs.Answer.{given, and_then}
 use Rattle.refusal.proofs.Admission.{admits-length}
@@ -12,6 +12,9 @@ pub returns-in_err-check_text : goal.returns-in_err-check_text
 returns-in_err-check_text c =
     let p = err_from_is_err_and c.from_residual.result c.from_residual.ensures.1 in
     rw (p.1, p.2) (λ bytes j. answer-refused bytes c.args.text.now c.args.slots _ (sym c.in_err-check_text.ensures))
+
+pub fill_marks-requires : goal.fill_marks-requires
+fill_marks-requires c = (admits-length c.args.text.now (sym c.in_ok-check_text.ensures), refl)
 
 pub count_clauses-requires : goal.count_clauses-requires
 count_clauses-requires c =

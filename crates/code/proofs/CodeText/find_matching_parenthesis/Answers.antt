@@ -1,10 +1,10 @@
--- `CodeText::find_matching_parenthesis`: the scan error is the first in all that follows the parenthesis; without one the brackets tell.
+-- `CodeText::find_matching_parenthesis`: the mark of the place tells whether the scan behind it has an error; without one the brackets tell the match.
 use Rattle.std.proofs.Common.{sym, ◌∙◌}
-use Rattle.code.proofs.WalkLaws.{match-clean, match-unclosed}
+use Rattle.code.proofs.FaultLaws.{match-clean, match-unclosed}
 use Rattle.code.proofs.CodeText.find_matching_parenthesis.Goals as goal
 
-pub returns-in-None-clause-value : goal.returns-in-None-clause-value
-returns-in-None-clause-value c = c.match_open.ensures.value ∙ sym (match-clean _ _ _ (sym c.in-None.ensures))
+pub returns-then-is_clean-clause-value : goal.returns-then-is_clean-clause-value
+returns-then-is_clean-clause-value c = c.match_open.ensures.value ∙ sym (match-clean _ _ _ (sym c.is_clean.ensures ∙ c.if-is_clean.true))
 
-pub returns-in-Some-clause-value : goal.returns-in-Some-clause-value
-returns-in-Some-clause-value c = sym (match-unclosed _ _ _ _ (sym c.in-Some.ensures))
+pub returns-else-is_clean-clause-value : goal.returns-else-is_clean-clause-value
+returns-else-is_clean-clause-value c = sym (match-unclosed _ _ _ (sym c.is_clean.ensures ∙ c.if-is_clean.false))

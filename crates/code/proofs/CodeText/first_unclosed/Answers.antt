@@ -2,7 +2,7 @@
 use Rattle.std.proofs.Common.{sym, ap, ◌∙◌, arith}
 use Rattle.code.specs.Code.{Scan}
 use Rattle.code.proofs.Laws.{scan-quote, scan-comment, scan-end}
-use Rattle.code.proofs.WalkLaws.{fault-code, fault-hidden, plain_code}
+use Rattle.code.proofs.FaultLaws.{fault-code, fault-hidden, plain_code}
 use Rattle.code.proofs.CodeText.first_unclosed.Goals as goal
 
 pub loop-i-preserved-then-is_plain : goal.loop-i-preserved-then-is_plain

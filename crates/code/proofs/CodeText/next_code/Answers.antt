@@ -5,7 +5,7 @@ use Rattle.code.specs.declared.Piece.{Piece}
 use Rattle.code.specs.declared.Piece.TheVariants.{Code, OpenQuote, OpenComment}
 use Rattle.code.specs.Code.{Scan, piece, scan_at, onward}
 use Rattle.code.proofs.Laws.{scan-code, scan-hidden, scan-quote, scan-comment, scan-end, onward-code, onward-end}
-use Rattle.code.proofs.WalkLaws.{plain_code}
+use Rattle.code.proofs.FaultLaws.{plain_code}
 use Rattle.code.proofs.CodeText.next_code.Goals as goal
 
 -- a byte of code at a place

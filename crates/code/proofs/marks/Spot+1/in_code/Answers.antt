@@ -1,6 +1,6 @@
 -- `Spot<1>::in_code`: each way is a law of the marks.
 use Rattle.std.proofs.Common.{rules, refl, sym, ◌∙◌}
-use Rattle.code.proofs.WalkLaws.{plain_code}
+use Rattle.code.proofs.FaultLaws.{plain_code}
 use Rattle.code.proofs.MarkLaws.{clean-code, at-quote, one-code, one-single, one-double}
 use Rattle.code.proofs.marks.Spot+1.in_code.Goals as goal
 
