@@ -49,6 +49,7 @@ module _ (bk text : List ℕ) (l : Language) (p : Prefix) (room : ℕ) where
   heads-found name e s =
       let a : parsed (book_of bk) l p room text ≡ behind name (sequence_at (book_of bk) text room name.end) = parsed-is (book_of bk) l p room text ∙ rw (sym e) in
       record {
+        short = s;
         started = started-at bk text room name.end s (name-ends (book_of bk) l p room text name (sym e));
         reads = rw a (ap (behind name) (reads_at bk text room name.end));
       }

@@ -2,7 +2,7 @@
 use Rattle.std.specs.Prelude.{ℕ, ◌+◌, ◌≤◌, ◌<◌, Bool, cond, not, ◌≡◌, List, length, take, Result, Ok, Err}
 use Rattle.refusal.specs.declared.Reason.TheVariants.{WrongLanguage}
 use Rattle.refusal.specs.declared.Refusal.{Refusal}
-use Rattle.refusal.specs.Answer.{Answer, given, refused_by, and_then}
+use Rattle.refusal.specs.Answer.{Answer, given, refused_by, and_then, max_length}
 use Rattle.refusal.specs.Verdict.{Verdict, refusal_at}
 use Rattle.lexer.specs.declared.Language.{Language}
 use Rattle.lexer.specs.declared.Language.TheVariants.{C, FortranFree, FortranFixed}
@@ -35,8 +35,9 @@ line_verdict l p ignores_case line = cond (suited l ignores_case) (lines_verdict
 abbrev pub behind : DirectiveName → Answer Sequence → Answer Parsed
 behind name x = and_then x (λ s. given (record { name = name; sequence = s }))
 
--- a head of a text of a book, from whose start on the answer is read
+-- a head of a text of a book that is not too long, from whose start on the answer is read
 pub record Heading (book text : List ℕ) (room : ℕ) (answer : Answer Parsed) (h : Head) : Type 0 where
+  pub short : length text ≤ max_length
   pub started : Started text room h.start
   pub reads : behind h.name (read_on book text h.start) ≡ answer
 

@@ -1,5 +1,5 @@
 -- `read_up_to` meets its contract: the first that refuses, or the clauses in their slots.
-use Rattle.std.proofs.Common.{◌+◌, ◌≤◌, arith, rules, length, sym, ap, ◌∙◌}
+use Rattle.std.proofs.Common.{◌+◌, ◌≤◌, arith, rules, length, refl, sym, ap, ◌∙◌}
 use Rattle.std.proofs.lemmas.Result.{err_from_is_err_and}
 use Rattle.ascii.proofs.Slots.{zeros-behind}
 use Rattle.refusal.specs.Answer.{refused_by, told}
@@ -32,6 +32,9 @@ returns-in_err-head c =
     let b = rw c.in_ok-book.was at c.checked.ensures in
     rw (p.1, p.2) (within-refused a.dialect.language a.dialect.prefix a.book.now a.line.now (length a.records.now) (length a.text.now) (length a.map.now) (length a.records.now) c.in_err-head.field-0.0
     (rw (b, c.head_of_fit.auto.text, c.head_of_fit.auto.map) at h))
+
+pub fill_marks-requires : goal.fill_marks-requires
+fill_marks-requires c = ((rw c.in_ok-head.was at c.head_of_fit.ensures).heads.short, refl)
 
 pub read_from-requires : goal.read_from-requires
 read_from-requires c = (rw c.in_ok-head.was at c.head_of_fit.ensures).heads.started
