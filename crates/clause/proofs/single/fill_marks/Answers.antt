@@ -5,4 +5,4 @@ use Rattle.clause.proofs.single.fill_marks.Goals as goal
 pub returns : goal.returns
 returns c =
     let b = c.args.book.now in
-    rw (book-case b.bytes.now b.header b.header_read, ← c.style_of.ensures) c.fill_marks.ensures
+    rw (book-case b.bytes.now b.header b.header_read) (rw c.style_of.ensures at c.fill_marks.ensures)
