@@ -8,6 +8,7 @@ use native.Mathlib.Nat.{add-zero}
 use native.Mathlib.Numerals.{add-one}
 use native.Mathlib.Omega.{arith}
 use borrow.Author.Tests.{eqb-true, eqb-false, not-true}
+use Rattle.std.proofs.Math.Bool.{and-true, and_assoc}
 use lib.Dec.{eqb}
 use lib.ListN.{length, get_or}
 use Rattle.ascii.specs.Ascii.{is_eol}
@@ -104,12 +105,42 @@ module _ (style : CommentStyle) (s : List ℕ) where
       (λ t. let k : at + 1 + (j - 1) ≡ at + j = omega (arith, eqb-false j 0 t) in
       rw k at (dulls-told n (at + 1) (omega arith) (and_right (is_dull (get_or s at 0)) (dulls s (at + 1) n) f) (j - 1) (omega (arith, eqb-false j 0 t))))
 
-  -- eight of them: all marks are that of the place behind them, and its flags are those of the first and the second
-  pub dull-octet : (at : ℕ) (f : Flags) → at + 8 ≤ length s → dulls s at 8 ≡ true → f ≡ flags_at style s (at + 8)
-      → marked_from style s at 8 ≡ record { bits = cond f.code 255 0; near = record { one = f; two = f } }
-  dull-octet at f h d e =
-      let n = dulls-told 8 at h d in
-      let one : flags_at style s at ≡ f = flags-run 8 at h n ∙ sym e in
-      let two : flags_at style s (at + 1) ≡ f = sym (flags-dull at (omega arith) (dull-first at 7 n)) ∙ one in
-      let b : marks_from style s at 8 ≡ cond f.code 255 0 = marks-run 8 at h n ∙ ap (λ c. cond c 255 0) (sym (flag-code style s (at + 8) f e)) in
+  -- n of them, at least two: all marks are that of the place behind them, and its flags are those of the first and the second
+  pub dull-places : (n at : ℕ) (f : Flags) → 2 ≤ n → at + n ≤ length s → dulls s at n ≡ true → f ≡ flags_at style s (at + n)
+      → marked_from style s at n ≡ record { bits = cond f.code (2 ^ n - 1) 0; near = record { one = f; two = f } }
+  dull-places n at f l h d e =
+      let m = dulls-told n at h d in
+      let k : n ≡ suc (n - 1) = omega arith in
+      let one : flags_at style s at ≡ f = flags-run n at h m ∙ sym e in
+      let two : flags_at style s (at + 1) ≡ f = sym (flags-dull at (omega arith) (dull-first at (n - 1) (rw k at m))) ∙ one in
+      let b : marks_from style s at n ≡ cond f.code (2 ^ n - 1) 0 = marks-run n at h m ∙ ap (λ c. cond c (2 ^ n - 1) 0) (sym (flag-code style s (at + n) f e)) in
       rw (one, two, b) refl
+
+-- the question of n bytes, one more, of eight, and of 32 by eights
+module _ (s : List ℕ) where
+  dulls-more : (n at : ℕ) → at + n < length s → dulls s at (n + 1) ≡ (dulls s at n && is_dull (get_or s (at + n) 0))
+  dulls-more zero at h = rw (drop_at s at (omega (arith, h)), add-zero at) (and-true (is_dull (get_or s at 0)))
+  dulls-more (suc n) at h =
+      let e : at + 1 + n ≡ at + suc n = omega arith in
+      let more : suc n + 1 ≡ suc (n + 1) = omega arith in
+      rw (more, drop_at s at (omega arith)) (ap (λ b. is_dull (get_or s at 0) && b) (dulls-more n (at + 1) (omega arith) ∙ rw e refl) ∙ sym (and_assoc (is_dull (get_or s at 0)) (dulls s (at + 1) n) (is_dull (get_or s (at + suc n) 0))))
+
+  abbrev dull-at : ℕ → Bool
+  dull-at i = is_dull (get_or s i 0)
+
+  pub dulls-eight : (at : ℕ) → at + 8 ≤ length s
+      → dulls s at 8 ≡ (dull-at at && dull-at (at + 1) && dull-at (at + 2) && dull-at (at + 3) && dull-at (at + 4) && dull-at (at + 5) && dull-at (at + 6) && dull-at (at + 7))
+  dulls-eight at h =
+      let more = λ (n : ℕ) (k : n < 8). dulls-more n at (omega (arith, h, k)) in
+      rw (more 7 (omega arith), more 6 (omega arith), more 5 (omega arith), more 4 (omega arith), more 3 (omega arith), more 2 (omega arith), more 1 (omega arith), more 0 (omega arith), add-zero at) refl
+
+  dulls-apart : (m n at : ℕ) → at + (m + n) ≤ length s → dulls s at (m + n) ≡ (dulls s at m && dulls s (at + m) n)
+  dulls-apart m zero at h = rw (add-zero m) (sym (and-true (dulls s at m)))
+  dulls-apart m (suc n) at h =
+      let more : m + suc n ≡ m + n + 1 = omega arith in
+      let last : suc n ≡ n + 1 = omega arith in
+      let e : at + m + n ≡ at + (m + n) = omega arith in
+      rw (more, dulls-more (m + n) at (omega arith), dulls-apart m n at (omega arith), last, dulls-more n (at + m) (omega arith), e) (and_assoc (dulls s at m) (dulls s (at + m) n) (dull-at (at + (m + n))))
+
+  pub dulls-cell : (at : ℕ) → at + 32 ≤ length s → dulls s at 32 ≡ (dulls s at 8 && dulls s (at + 8) 8 && dulls s (at + 16) 8 && dulls s (at + 24) 8)
+  dulls-cell at h = rw (dulls-apart 24 8 at h, dulls-apart 16 8 at (omega arith), dulls-apart 8 8 at (omega arith)) refl

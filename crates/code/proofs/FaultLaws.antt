@@ -1,7 +1,7 @@
 -- Laws of the scan's fault: a literal or comment without an end is the same one before and behind a piece, and where none is the brackets alone tell
 -- the match. Each by what the scan is at a piece. Assumes nothing.
 use mathlib.Core.Path.{◌≡◌, refl, ap, ◌∙◌}
-use mathlib.Core.Bool.{Bool, true, false, true≢false, false≢true, cond, ◌||◌}
+use mathlib.Core.Bool.{true, false, true≢false, false≢true, ◌||◌}
 use mathlib.Core.List.{List, [], ◌∷◌}
 use Rattle.std.specs.Prelude.{Option, Some, None, Err, is_none}
 use Prim.Native.Nat.{ℕ, ◌+◌, ◌<◌}

@@ -1,6 +1,6 @@
 // The marks of a text: from which of its places on no literal or comment is unclosed, found in one walk from its back. Each match asks the mark of its place,
 // so that the rest is not scanned anew for each.
-ghost use Rattle.std.specs.Prelude.{◌≡◌, true, cond, ◌+◌, ◌/◌, ◌<◌, ◌≤◌, ◌⊎◌, length, eqb, get_or};
+ghost use Rattle.std.specs.Prelude.{◌≡◌, true, cond, ◌+◌, ◌-◌, ◌/◌, ◌^◌, ◌<◌, ◌≤◌, ◌⊎◌, length, eqb, get_or};
 ghost use Rattle.code.specs.Marks.{clean, quote_clean, block_clean, line_clean, past_end, flags_at, near_at, marked_from, Marked, is_dull, dulls};
 
 use crate::{CodeText, Flags, MarkBits, Near};
@@ -27,19 +27,44 @@ fn past_end() -> Flags
     }
 }
 
-// Whether a byte begins, ends and hides nothing.
+// Whether a byte begins, ends and hides nothing. By `|`, of which the compiler makes vector code where eight are asked; a `matches!` is a set of bits.
 fn is_dull(b: u8) -> bool
     ensures { result ≡ is_dull b }
 {
-    !matches!(b, b'\'' | b'"' | b'/' | b'!' | b'\\' | b'*' | b'\n' | b'\r')
+    !((b == b'\'')
+        | (b == b'"')
+        | (b == b'/')
+        | (b == b'!')
+        | (b == b'\\')
+        | (b == b'*')
+        | (b == b'\n')
+        | (b == b'\r'))
 }
 
-// Whether eight bytes from a place on do not.
+// Whether eight bytes from a place on do not. In one expression without branches, of which the compiler makes vector code; of a loop it makes none.
 fn is_dull_eight(text: &[u8], at: usize) -> bool
     requires { at + 8 ≤ length text.now }
     ensures { result ≡ dulls text.now at 8 }
 {
-    text[at..at + 8].iter().all(|b| is_dull(*b))
+    is_dull(text[at])
+        & is_dull(text[at + 1])
+        & is_dull(text[at + 2])
+        & is_dull(text[at + 3])
+        & is_dull(text[at + 4])
+        & is_dull(text[at + 5])
+        & is_dull(text[at + 6])
+        & is_dull(text[at + 7])
+}
+
+// Whether 32 bytes from a place on do not.
+fn is_dull_cell(text: &[u8], at: usize) -> bool
+    requires { at + 32 ≤ length text.now }
+    ensures { result ≡ dulls text.now at 32 }
+{
+    is_dull_eight(text, at)
+        & is_dull_eight(text, at + 8)
+        & is_dull_eight(text, at + 16)
+        & is_dull_eight(text, at + 24)
 }
 
 // A place of a text, with the flags N places behind it: from back to front, those of a place follow from those behind it. That the place is inside is asked by
@@ -149,21 +174,23 @@ impl Spot<'_, 1> {
     }
 }
 
-impl Spot<'_, 8> {
-    // The marks of the eight places, if none of the eight bytes changes the flags.
-    fn dull_octet(&self) -> MarkBits
-        requires { (self.now.at + 8 ≤ length self.now.code.text.now) × (dulls self.now.code.text.now self.now.at 8 ≡ true) }
-        ensures { result ≡ marked_from self.now.code.style self.now.code.text.now self.now.at 8 }
+impl<const N: usize> Spot<'_, N> {
+    // The marks of its N places, if none of their bytes changes the flags; in `all` the lowest N bits are set.
+    fn dull(&self, all: u32) -> MarkBits
+        requires { ((2 ≤ N) × (all ≡ 2 ^ N - 1)) × ((self.now.at + N ≤ length self.now.code.text.now) × (dulls self.now.code.text.now self.now.at N ≡ true)) }
+        ensures { result ≡ marked_from self.now.code.style self.now.code.text.now self.now.at N }
     {
         MarkBits {
-            bits: if self.near.one.code { 255 } else { 0 },
+            bits: if self.near.one.code { all } else { 0 },
             near: Near {
                 one: self.near.one,
                 two: self.near.one,
             },
         }
     }
+}
 
+impl Spot<'_, 8> {
     // The marks of the eight places, one by one.
     fn mixed_octet(&self) -> MarkBits
         requires { self.now.at ≤ 16408 }
@@ -203,7 +230,7 @@ impl Spot<'_, 8> {
             };
         }
         if self.at + 8 <= text.len() && is_dull_eight(text, self.at) {
-            return self.dull_octet();
+            return self.dull(0xFF);
         }
         self.mixed_octet()
     }
@@ -212,7 +239,7 @@ impl Spot<'_, 8> {
 impl Spot<'_, 32> {
     // The marks of the 32 places, eight by eight. A loop of the shape of `mixed_octet`'s: one for both would need a trait for what marks a part, and be no
     // plainer.
-    fn cell(&self) -> MarkBits
+    fn mixed_cell(&self) -> MarkBits
         requires { self.now.at ≤ 16384 }
         ensures { result ≡ marked_from self.now.code.style self.now.code.text.now self.now.at 32 }
     {
@@ -229,6 +256,18 @@ impl Spot<'_, 32> {
             bits = bits * 256 + eight.bits;
         }
         MarkBits { bits, near }
+    }
+
+    // The marks of the 32 places.
+    fn cell(&self) -> MarkBits
+        requires { self.now.at ≤ 16384 }
+        ensures { result ≡ marked_from self.now.code.style self.now.code.text.now self.now.at 32 }
+    {
+        let text = self.code.text;
+        if self.at + 32 <= text.len() && is_dull_cell(text, self.at) {
+            return self.dull(0xFFFF_FFFF);
+        }
+        self.mixed_cell()
     }
 }
 

@@ -1,7 +1,7 @@
--- `Spot<32>::cell`: what is packed are the marks from the place on, and the flags are those there.
+-- `Spot<32>::mixed_cell`: what is packed are the marks from the place on, and the flags are those there.
 use Rattle.std.proofs.Common.{◌≡◌, ◌+◌, ◌*◌, ◌-◌, ◌≤◌}
 use Rattle.code.specs.Marks.{near_at, marks_from}
-use Rattle.code.proofs.marks.Spot+32.cell.Given as goal
+use Rattle.code.proofs.marks.Spot+32.mixed_cell.Given as goal
 
 abbrev pub invariant-loop-k : goal.invariant-loop-k
 invariant-loop-k l = record {

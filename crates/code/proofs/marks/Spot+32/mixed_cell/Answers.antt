@@ -1,10 +1,10 @@
--- `Spot<32>::cell`: eight places more are the lowest eight marks.
+-- `Spot<32>::mixed_cell`: eight places more are the lowest eight marks.
 use Rattle.std.proofs.Common.{◌≡◌, ◌+◌, ◌*◌, ◌-◌, ◌<◌, ◌≤◌, ℕ, List, ap, refl, arith}
 use Rattle.code.specs.declared.CommentStyle.{CommentStyle}
 use Rattle.code.specs.declared.MarkBits.{MarkBits}
 use Rattle.code.specs.Marks.{marks_from}
 use Rattle.code.proofs.MarkLaws.{marks-eight, marks-fit}
-use Rattle.code.proofs.marks.Spot+32.cell.Goals as goal
+use Rattle.code.proofs.marks.Spot+32.mixed_cell.Goals as goal
 
 -- the marks with those of the eight places before, which fit their number
 module _ (style : CommentStyle) (s : List ℕ) (at k bits : ℕ) (h : 0 < k) (g : k ≤ 4) (e : bits ≡ marks_from style s (at + 8 * k) (32 - 8 * k)) where
