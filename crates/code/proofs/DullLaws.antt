@@ -2,24 +2,25 @@
 -- By the laws of the marks, a byte at a time. Assumes nothing.
 use mathlib.Core.Path.{◌≡◌, refl, sym, ap, ◌∙◌}
 use mathlib.Core.Bool.{Bool, true, false, cond, not, ◌&&◌, ◌||◌}
-use mathlib.Core.List.{List}
+use mathlib.Core.List.{List, []}
 use Prim.Native.Nat.{ℕ, zero, suc, ◌+◌, ◌-◌, ◌^◌, ◌<◌, ◌≤◌}
 use native.Mathlib.Nat.{add-zero}
 use native.Mathlib.Numerals.{add-one}
 use native.Mathlib.Omega.{arith}
-use borrow.Author.Tests.{eqb-true, eqb-false, not-true}
+use borrow.Author.Tests.{eqb-true, eqb-false, ltb-true, ltb-false, not-true}
 use Rattle.std.proofs.Math.Bool.{and-true, and_assoc}
-use lib.Dec.{eqb}
-use lib.ListN.{length, get_or}
+use lib.Dec.{eqb, ltb}
+use lib.ListN.{length, drop, get_or, drop_of_length-le}
+use Rattle.std.specs.List.{list_all}
 use Rattle.ascii.specs.Ascii.{is_eol}
 use Rattle.ascii.proofs.Flags.{and_left, and_right, or-none, by_cases}
 use Rattle.code.specs.declared.CommentStyle.{CommentStyle}
 use Rattle.code.specs.declared.Flags.{Flags}
 use Rattle.code.specs.Code.{has_escapes, hides_next, is_plain}
-use Rattle.code.specs.Marks.{clean, flags_at, marks_from, marked_from, is_dull, dulls}
+use Rattle.code.specs.Marks.{clean, past_end, flags_at, marks_from, marked_from, is_dull, dulls}
 use Rattle.code.proofs.Laws.{drop_at}
 use Rattle.code.proofs.FaultLaws.{plain-parts, plain_code}
-use Rattle.code.proofs.MarkLaws.{clean-code, quote-plain, block_goes, line-goes, ones, flag-code}
+use Rattle.code.proofs.MarkLaws.{clean-code, quote-plain, block_goes, line-goes, ones, flag-code, flags-past}
 
 -- four tests that all hold
 four : (a b c d : Bool) → (a && b && c && d) ≡ true → (a ≡ true) × (b ≡ true) × (c ≡ true) × (d ≡ true)
@@ -115,6 +116,37 @@ module _ (style : CommentStyle) (s : List ℕ) where
       let two : flags_at style s (at + 1) ≡ f = sym (flags-dull at (omega arith) (dull-first at (n - 1) (rw k at m))) ∙ one in
       let b : marks_from style s at n ≡ cond f.code (2 ^ n - 1) 0 = marks-run n at h m ∙ ap (λ c. cond c (2 ^ n - 1) 0) (sym (flag-code style s (at + n) f e)) in
       rw (one, two, b) refl
+
+  -- where the text ends in dull bytes from a place on: the flags there are those of its end, and all marks are 1
+  abbrev pub Ends : ℕ → Type 0
+  Ends at = list_all is_dull (drop at s) ≡ true
+
+  module _ (at : ℕ) (d : Ends at) where
+    ends-first : at < length s → is_dull (get_or s at 0) ≡ true
+    ends-first h = and_left (is_dull (get_or s at 0)) (list_all is_dull (drop (at + 1) s)) (rw (drop_at s at h) at d)
+
+    ends-next : Ends (at + 1)
+    ends-next =
+        by_cases (ltb at (length s))
+        (λ t. and_right (is_dull (get_or s at 0)) (list_all is_dull (drop (at + 1) s)) (rw (drop_at s at (ltb-true at (length s) t)) at d))
+        (λ t. let none : drop (at + 1) s ≡ [] = drop_of_length-le s (omega (arith, ltb-false at (length s) t)) in rw none refl)
+
+  flags-end-in : (k at : ℕ) → length s ≤ at + k → Ends at → flags_at style s at ≡ past_end
+  flags-end-in zero at h d = flags-past style s at (omega (arith, h))
+  flags-end-in (suc k) at h d =
+      by_cases (ltb at (length s))
+      (λ t. let i = ltb-true at (length s) t in flags-dull at i (ends-first at d i) ∙ flags-end-in k (at + 1) (omega arith) (ends-next at d))
+      (λ t. flags-past style s at (omega (arith, ltb-false at (length s) t)))
+
+  flags-end : (at : ℕ) → Ends at → flags_at style s at ≡ past_end
+  flags-end at d = flags-end-in (length s) at (omega arith) d
+
+  marks-end : (n at : ℕ) → Ends at → marks_from style s at n ≡ 2 ^ n - 1
+  marks-end zero at d = refl
+  marks-end (suc n) at d = rw (← (flag-code style s at past_end (sym (flags-end at d))), ← (add-one at), marks-end n (at + 1) (ends-next at d)) (ones style s true n)
+
+  pub dull-end : (n at : ℕ) → Ends at → marked_from style s at n ≡ record { bits = 2 ^ n - 1; near = record { one = past_end; two = past_end } }
+  dull-end n at d = rw (marks-end n at d, flags-end at d, flags-end (at + 1) (ends-next at d)) refl
 
 -- the question of n bytes, one more, of eight, and of 32 by eights
 module _ (s : List ℕ) where

@@ -1,6 +1,7 @@
 // The marks of a text: from which of its places on no literal or comment is unclosed, found in one walk from its back. Each match asks the mark of its place,
 // so that the rest is not scanned anew for each.
 ghost use Rattle.std.specs.Prelude.{◌≡◌, true, cond, ◌+◌, ◌-◌, ◌/◌, ◌^◌, ◌<◌, ◌≤◌, ◌⊎◌, length, eqb, get_or};
+ghost use Rattle.std.specs.List.{list_all};
 ghost use Rattle.code.specs.Marks.{clean, quote_clean, block_clean, line_clean, past_end, flags_at, near_at, marked_from, Marked, is_dull, dulls};
 
 use crate::{CodeText, Flags, MarkBits, Near};
@@ -65,6 +66,13 @@ fn is_dull_cell(text: &[u8], at: usize) -> bool
         & is_dull_eight(text, at + 8)
         & is_dull_eight(text, at + 16)
         & is_dull_eight(text, at + 24)
+}
+
+// Whether no byte of a text does: for a few bytes.
+fn is_dull_text(text: &[u8]) -> bool
+    ensures { result ≡ list_all is_dull text.now }
+{
+    text.iter().all(|b| is_dull(*b))
 }
 
 // A place of a text, with the flags N places behind it: from back to front, those of a place follow from those behind it. That the place is inside is asked by
@@ -258,13 +266,31 @@ impl Spot<'_, 32> {
         MarkBits { bits, near }
     }
 
+    // The marks of the 32 places where the text ends among them: mostly nothing there changes the flags of its end.
+    fn last_cell(&self) -> MarkBits
+        requires { (self.now.at ≤ 16384) × (self.now.at ≤ length self.now.code.text.now) }
+        ensures { result ≡ marked_from self.now.code.style self.now.code.text.now self.now.at 32 }
+    {
+        if is_dull_text(&self.code.text[self.at..]) {
+            let end = past_end();
+            return MarkBits {
+                bits: 0xFFFF_FFFF,
+                near: Near { one: end, two: end },
+            };
+        }
+        self.mixed_cell()
+    }
+
     // The marks of the 32 places.
     fn cell(&self) -> MarkBits
-        requires { self.now.at ≤ 16384 }
+        requires { (self.now.at ≤ 16384) × (self.now.at ≤ length self.now.code.text.now) }
         ensures { result ≡ marked_from self.now.code.style self.now.code.text.now self.now.at 32 }
     {
         let text = self.code.text;
-        if self.at + 32 <= text.len() && is_dull_cell(text, self.at) {
+        if text.len() < self.at + 32 {
+            return self.last_cell();
+        }
+        if is_dull_cell(text, self.at) {
             return self.dull(0xFFFF_FFFF);
         }
         self.mixed_cell()
