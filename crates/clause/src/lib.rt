@@ -15,7 +15,6 @@ ghost use Rattle.clause.specs.Clause.{style};
 ghost use Rattle.clause.specs.Calls.{Admits, SequenceCall, sequence_call};
 ghost use Rattle.clause.specs.Steps.{sequence_into};
 
-use code::MARK_CELLS;
 use refusal::Refusal;
 use rulebook::CheckedBook;
 use rulebook::index::Index;
@@ -44,9 +43,14 @@ pub struct ClauseRecord {
 pub struct ClauseList<'a> {
     pub book: &'a CheckedBook<'a>,
     pub text: &'a [u8],
-    pub marks: &'a [u32],
-    pub ghost marked: { Marked (style (book_of book.now.bytes.now).ignores_case) text.now marks.now },
+    marks: &'a [u32],
+    ghost marked: { Marked (style (book_of book.now.bytes.now).ignores_case) text.now marks.now },
 }
+
+// A text of fewer bytes than these needs no more numbers for its marks than those: most lines are as short.
+const SHORT_TEXT: usize = 1024;
+
+const SHORT_CELLS: usize = 32;
 
 // How many clauses were read, and the place of the unread rest.
 #[derive(Clone, Copy, Debug, PartialEq, Eq)]
@@ -143,15 +147,8 @@ pub fn parse_sequence(
     let mut index = Index::new();
     match admitted(book, text, &mut index) {
         Ok(book) => {
-            let mut marks = [0; MARK_CELLS];
-            single::fill_marks(&book, text, &mut marks);
-            let list = ClauseList {
-                book: &book,
-                text,
-                marks: &marks,
-            };
             let start = SequenceState::start_at(&book, text, 0, records.len());
-            list.read_from(start, records)
+            records::read_clauses(&book, text, start, records)
         }
         Err(refusal) => {
             records.fill(records::zero_record());

@@ -1,18 +1,18 @@
 // The answer of a sequence under a book that was checked: for calls that read many of them under one check.
-ghost use Rattle.std.specs.Prelude.{◌≡◌, ℕ, List};
-ghost use Rattle.refusal.specs.Answer.{told, given, and_then};
+ghost use Rattle.std.specs.Prelude.{◌≡◌, ◌/◌, ◌<◌, ◌≤◌, ℕ, List, length};
+ghost use Rattle.refusal.specs.Answer.{told, given, and_then, max_length};
 ghost use Rattle.rulebook.specs.Judged.{Judged};
 ghost use Rattle.clause.specs.Calls.{counted, sequence_call};
 ghost use Rattle.clause.specs.Steps.{Started, read_on};
 
-use crate::{ClauseList, SequenceEnd, SequenceState, single};
+use crate::{ClauseList, SHORT_CELLS, SHORT_TEXT, SequenceEnd, SequenceState, single};
 use code::MARK_CELLS;
 use refusal::Refusal;
 use rulebook::CheckedBook;
 
 impl ClauseList<'_> {
     // The answer of the clauses from a state on, with so many slots. Each clause's record is made, and not kept.
-    pub fn count_clauses(&self, start: SequenceState, slots: usize) -> Result<SequenceEnd, Refusal>
+    fn count_from(&self, start: SequenceState, slots: usize) -> Result<SequenceEnd, Refusal>
         requires { Started self.now.text.now slots start }
         ensures { told result ≡ and_then (read_on self.now.book.now.bytes.now self.now.text.now start) (λ s. given (counted s)) }
     {
@@ -28,6 +28,44 @@ impl ClauseList<'_> {
     }
 }
 
+// The same of a text, which is marked first, in an array of N numbers.
+fn count_marked<const N: usize>(
+    book: &CheckedBook,
+    text: &[u8],
+    start: SequenceState,
+    slots: usize,
+) -> Result<SequenceEnd, Refusal>
+    requires short { (length text.now ≤ max_length) × (length text.now / 32 < N) × (N ≤ 513) }
+    requires started { Started text.now slots start }
+    ensures { told result ≡ and_then (read_on book.now.bytes.now text.now start) (λ s. given (counted s)) }
+{
+    let mut marks = [0; N];
+    single::fill_marks(book, text, &mut marks);
+    let list = ClauseList {
+        book,
+        text,
+        marks: &marks,
+    };
+    list.count_from(start, slots)
+}
+
+// The same in an array that is no longer than it need be, since all of it is zeroed.
+pub fn count_clauses(
+    book: &CheckedBook,
+    text: &[u8],
+    start: SequenceState,
+    slots: usize,
+) -> Result<SequenceEnd, Refusal>
+    requires short { length text.now ≤ max_length }
+    requires started { Started text.now slots start }
+    ensures { told result ≡ and_then (read_on book.now.bytes.now text.now start) (λ s. given (counted s)) }
+{
+    if text.len() < SHORT_TEXT {
+        return count_marked::<SHORT_CELLS>(book, text, start, slots);
+    }
+    count_marked::<MARK_CELLS>(book, text, start, slots)
+}
+
 // Beside `parse_sequence`, which checks its book and keeps the records.
 // The answer of a text with so many record slots, under a book as its check left it.
 pub fn sequence_answer(
@@ -40,14 +78,8 @@ pub fn sequence_answer(
     refusal::check_text(text)?;
     match book {
         Ok(book) => {
-            let mut marks = [0; MARK_CELLS];
-            single::fill_marks(book, text, &mut marks);
-            let list = ClauseList {
-                book,
-                text,
-                marks: &marks,
-            };
-            list.count_clauses(SequenceState::start_at(book, text, 0, slots), slots)
+            let start = SequenceState::start_at(book, text, 0, slots);
+            count_clauses(book, text, start, slots)
         }
         Err(refusal) => Err(*refusal),
     }

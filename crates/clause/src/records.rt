@@ -1,12 +1,16 @@
 // The thin writers: clause records into a lent slice of slots.
-ghost use Rattle.std.specs.Prelude.{◌≡◌, length};
-ghost use Rattle.refusal.specs.Answer.{told};
+ghost use Rattle.std.specs.Prelude.{◌≡◌, ◌/◌, ◌<◌, ◌≤◌, length};
+ghost use Rattle.refusal.specs.Answer.{told, max_length};
 ghost use Rattle.clause.specs.Clause.{zero_record};
 ghost use Rattle.clause.specs.Calls.{SequenceCall};
 ghost use Rattle.clause.specs.Steps.{Proper, Started, state_at, records_from, read_on, settled};
 
-use crate::{ClauseList, ClauseRecord, SequenceEnd, SequenceState};
+use crate::{
+    ClauseList, ClauseRecord, SHORT_CELLS, SHORT_TEXT, SequenceEnd, SequenceState, single,
+};
+use code::MARK_CELLS;
 use refusal::Refusal;
+use rulebook::CheckedBook;
 
 // A record of no clause: `default`, with a contract that says what it is.
 pub fn zero_record() -> ClauseRecord
@@ -37,7 +41,7 @@ impl ClauseList<'_> {
     }
 
     // The clauses from a state on into the slots: each slot its record, all zeroed after a refusal.
-    pub fn read_from(
+    fn read_from(
         &self,
         start: SequenceState,
         records: &mut [ClauseRecord],
@@ -53,4 +57,42 @@ impl ClauseList<'_> {
         }
         answer
     }
+}
+
+// The same of a text, which is marked first, in an array of N numbers.
+fn read_marked<const N: usize>(
+    book: &CheckedBook,
+    text: &[u8],
+    start: SequenceState,
+    records: &mut [ClauseRecord],
+) -> Result<SequenceEnd, Refusal>
+    requires short { (length text.now ≤ max_length) × (length text.now / 32 < N) × (N ≤ 513) }
+    requires started { Started text.now (length records.old) start }
+    ensures { record { answer = told result; records = records.new } ≡ settled (length records.old) (read_on book.now.bytes.now text.now start) }
+{
+    let mut marks = [0; N];
+    single::fill_marks(book, text, &mut marks);
+    let list = ClauseList {
+        book,
+        text,
+        marks: &marks,
+    };
+    list.read_from(start, records)
+}
+
+// The same in an array that is no longer than it need be, since all of it is zeroed.
+pub fn read_clauses(
+    book: &CheckedBook,
+    text: &[u8],
+    start: SequenceState,
+    records: &mut [ClauseRecord],
+) -> Result<SequenceEnd, Refusal>
+    requires short { length text.now ≤ max_length }
+    requires started { Started text.now (length records.old) start }
+    ensures { record { answer = told result; records = records.new } ≡ settled (length records.old) (read_on book.now.bytes.now text.now start) }
+{
+    if text.len() < SHORT_TEXT {
+        return read_marked::<SHORT_CELLS>(book, text, start, records);
+    }
+    read_marked::<MARK_CELLS>(book, text, start, records)
 }

@@ -1,5 +1,5 @@
 // One clause: its word, its entry and rule under the book, and its argument.
-ghost use Rattle.std.specs.Prelude.{◌≡◌, Option, Some, cond, suc, ◌≤◌, ◌<◌, length, drop, IfSome};
+ghost use Rattle.std.specs.Prelude.{◌≡◌, Option, Some, cond, suc, ◌≤◌, ◌<◌, ◌/◌, length, drop, IfSome};
 ghost use Rattle.refusal.specs.Answer.{max_length};
 ghost use Rattle.code.specs.Marks.{Marked};
 ghost use Rattle.code.specs.Matching.{matching};
@@ -52,8 +52,8 @@ fn style_of(fortran: bool) -> CommentStyle
 }
 
 // The marks of a text whose clauses are to be read under a book.
-pub fn fill_marks(book: &CheckedBook, text: &[u8], marks: &mut [u32])
-    requires { (length text.now ≤ max_length) × (length marks.old ≡ 513) }
+pub(crate) fn fill_marks(book: &CheckedBook, text: &[u8], marks: &mut [u32])
+    requires { (length text.now ≤ max_length) × (length text.now / 32 < length marks.old) }
     ensures { Marked (style (book_of book.now.bytes.now).ignores_case) text.now marks.new }
 {
     let code = CodeText {

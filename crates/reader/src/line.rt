@@ -4,8 +4,8 @@ ghost use Rattle.reader.specs.Calls.{line_call};
 ghost use Rattle.reader.specs.Steps.{Leaves};
 
 use crate::{Reading, heading};
-use clause::{ClauseList, ClauseRecord, single};
-use code::MARK_CELLS;
+use clause::ClauseRecord;
+use clause::records::read_clauses;
 use lexer::Dialect;
 use refusal::Refusal;
 use rulebook::index::Index;
@@ -26,15 +26,7 @@ pub(crate) fn read_up_to(
     let mut index = Index::new();
     let book = rulebook::checked(book, &mut index)?;
     let head = heading::head_of_fit(dialect, &book, line, text, map, records.len())?;
-    let joined = &text[..head.length];
-    let mut marks = [0; MARK_CELLS];
-    single::fill_marks(&book, joined, &mut marks);
-    let list = ClauseList {
-        book: &book,
-        text: joined,
-        marks: &marks,
-    };
-    let end = list.read_from(head.start, records)?;
+    let end = read_clauses(&book, &text[..head.length], head.start, records)?;
     text[head.length..].fill(0);
     map[head.length + 1..].fill(0);
     Ok(heading::reading(head.name, end))

@@ -5,8 +5,7 @@ ghost use Rattle.rulebook.specs.Judged.{Judged};
 ghost use Rattle.reader.specs.Calls.{line_call};
 
 use crate::{Reading, heading};
-use clause::{ClauseList, single};
-use code::MARK_CELLS;
+use clause::many::count_clauses;
 use lexer::Dialect;
 use refusal::Refusal;
 use rulebook::CheckedBook;
@@ -28,15 +27,7 @@ pub fn line_answer(
     match book {
         Ok(book) => {
             let head = heading::head_of_fit(dialect, book, line, text, map, slots)?;
-            let joined = &text[..head.length];
-            let mut marks = [0; MARK_CELLS];
-            single::fill_marks(book, joined, &mut marks);
-            let list = ClauseList {
-                book,
-                text: joined,
-                marks: &marks,
-            };
-            let end = list.count_clauses(head.start, slots)?;
+            let end = count_clauses(book, &text[..head.length], head.start, slots)?;
             Ok(heading::reading(head.name, end))
         }
         Err(refusal) => Err(*refusal),

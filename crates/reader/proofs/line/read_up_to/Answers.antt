@@ -1,5 +1,5 @@
 -- `read_up_to` meets its contract: the first that refuses, or the clauses in their slots.
-use Rattle.std.proofs.Common.{◌+◌, ◌≤◌, arith, rules, length, refl, sym, ap, ◌∙◌}
+use Rattle.std.proofs.Common.{◌+◌, ◌≤◌, arith, rules, length, sym, ap, ◌∙◌}
 use Rattle.std.proofs.lemmas.Result.{err_from_is_err_and}
 use Rattle.ascii.proofs.Slots.{zeros-behind}
 use Rattle.refusal.specs.Answer.{refused_by, told}
@@ -33,11 +33,11 @@ returns-in_err-head c =
     rw (p.1, p.2) (within-refused a.dialect.language a.dialect.prefix a.book.now a.line.now (length a.records.now) (length a.text.now) (length a.map.now) (length a.records.now) c.in_err-head.field-0.0
     (rw (b, c.head_of_fit.auto.text, c.head_of_fit.auto.map) at h))
 
-pub fill_marks-requires : goal.fill_marks-requires
-fill_marks-requires c = ((rw c.in_ok-head.was at c.head_of_fit.ensures).heads.short, refl)
+pub read_clauses-requires-clause-short : goal.read_clauses-requires-clause-short
+read_clauses-requires-clause-short c = (rw c.in_ok-head.was at c.head_of_fit.ensures).heads.short
 
-pub read_from-requires : goal.read_from-requires
-read_from-requires c = (rw c.in_ok-head.was at c.head_of_fit.ensures).heads.started
+pub read_clauses-requires-clause-started : goal.read_clauses-requires-clause-started
+read_clauses-requires-clause-started c = (rw c.in_ok-head.was at c.head_of_fit.ensures).heads.started
 
 pub returns-in_err-end : goal.returns-in_err-end
 returns-in_err-end c =
@@ -45,7 +45,7 @@ returns-in_err-end c =
     let p = err_from_is_err_and c.from_residual-in_err-end.result c.from_residual-in_err-end.ensures.1 in
     let h = rw c.in_ok-head.was at c.head_of_fit.ensures in
     let b = rw c.in_ok-book.was at c.checked.ensures in
-    let e = sym (ap told c.in_err-end.was) ∙ ap (λ (k : SequenceCall). k.answer) c.read_from.ensures in
+    let e = sym (ap told c.in_err-end.was) ∙ ap (λ (k : SequenceCall). k.answer) c.read_clauses.ensures in
     rw (p.1, p.2) (within-refused a.dialect.language a.dialect.prefix a.book.now a.line.now (length a.records.now) (length a.text.now) (length a.map.now) (length a.records.now) c.in_err-end.field-0.0
     (rw (b, c.head_of_fit.auto.text, c.head_of_fit.auto.map) at (clauses-refused a.dialect.language a.dialect.prefix c.in_ok-book.book.bytes.now a.line.now (length a.records.now) c.head_of_fit.new.text c.head_of_fit.new.map
     c.in_ok-head.head h c.in_err-end.field-0.0 e)))
@@ -58,8 +58,8 @@ returns c =
     let n = c.in_ok-head.head.length in
     let h = rw c.in_ok-head.was at c.head_of_fit.ensures in
     let b = rw c.in_ok-book.was at c.checked.ensures in
-    let e = rw c.in_ok-end.was at c.read_from.ensures in
+    let e = rw c.in_ok-end.was at c.read_clauses.ensures in
     let l : n + 1 ≤ length m = omega (arith, h.within.1) in
     rw c.reading.ensures
     (line-done a.dialect.language a.dialect.prefix c.in_ok-book.book.bytes.now a.line.now (length a.records.now) t m c.in_ok-head.head h (length a.records.now) (length a.text.now) (length a.map.now) a.book.now _ _
-    c.read_from.new.records c.in_ok-end.end b c.head_of_fit.auto.text c.head_of_fit.auto.map e (zeros-behind 0 t c.fill.new.self n h.within.0 (search rules)) (zeros-behind 0 m c.fill-2.new.self (n + 1) l (search rules)))
+    c.read_clauses.new.records c.in_ok-end.end b c.head_of_fit.auto.text c.head_of_fit.auto.map e (zeros-behind 0 t c.fill.new.self n h.within.0 (search rules)) (zeros-behind 0 m c.fill-2.new.self (n + 1) l (search rules)))

@@ -1,10 +1,10 @@
--- `count_clauses` meets its contract: the state after so many steps, until one ends the list or there are as many steps as slots.
+-- `count_from` meets its contract: the state after so many steps, until one ends the list or there are as many steps as slots.
 use Rattle.std.proofs.Common.{◌≡◌, ◌∙◌, ◌+◌, false, ap, sym, arith}
 use Rattle.clause.specs.Steps.{is_going, next_state, state_at, answer_of}
 use Rattle.clause.proofs.Filling.{at-start, at_next}
 use Rattle.clause.proofs.Properness.{proper-at}
 use Rattle.clause.proofs.Counting.{counts, counts-ended}
-use Rattle.clause.proofs.ClauseList.count_clauses.Goals as goal
+use Rattle.clause.proofs.ClauseList.count_from.Goals as goal
 
 pub loop-init : goal.loop-init
 loop-init c = at-start c.args.self.now.book.now.bytes.now c.args.self.now.text.now c.args.start
