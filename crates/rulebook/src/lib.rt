@@ -5,6 +5,7 @@ mod check;
 pub mod index;
 pub mod lookup;
 pub mod names;
+mod order;
 mod repeats;
 
 ghost use Rattle.std.specs.Prelude.{◌≡◌, ◌<◌, ℕ, None, get_or};

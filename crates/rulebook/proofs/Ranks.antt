@@ -1,0 +1,94 @@
+-- The order of names: what two names agree in up to a byte, the byte where they first differ, and their lengths decide which comes first.
+-- By induction over the bytes. Assumes nothing.
+use mathlib.Core.Path.{◌≡◌, refl, sym, ap, ◌∙◌}
+use mathlib.Core.Bool.{Bool, true, false, ◌&&◌, true≢false}
+use mathlib.Core.List.{List, [], ◌∷◌}
+use Prim.Native.Nat.{ℕ, zero, suc, ◌+◌, ◌*◌, ◌<◌, ◌≤◌}
+use native.Mathlib.Numerals.{add-one}
+use native.Mathlib.Omega.{arith}
+use lib.ListN.{length, get_or, drop, length-drop, drop_of_length-le}
+use lib.Seq.{drop-cons}
+use lib.Dec.{eqb}
+use borrow.Author.Tests.{eqb-true, eqb-false, eq-eqb}
+use Rattle.std.proofs.lemmas.List.{get_or-drop}
+use Rattle.std.proofs.lemmas.Bool.Decides.{nat_tests}
+use Rattle.ascii.specs.Ascii.{fold}
+use Rattle.ascii.specs.Text.{same_by}
+use Rattle.ascii.proofs.Flags.{by_cases, and_left, and_right}
+use Rattle.rulebook.specs.Order.{rank_from, rank}
+
+-- nothing but bytes
+abbrev pub Bytes : List ℕ → Type 0
+Bytes bs = (i : ℕ) → get_or bs i 0 < 256
+
+fold-byte : (b : ℕ) → b < 256 → fold b < 256
+fold-byte b h = grind (arith, nat_tests)
+
+-- a number that is less stays so with as many digits behind both
+higher : (h k : ℕ) (a b : List ℕ) → h < k → length a ≡ length b → Bytes a → rank_from h a < rank_from k b
+unfolding rank_from
+higher h k [] [] l e s = l
+higher h k [] (y ∷ ys) l e s = absurd (omega arith)
+higher h k (x ∷ xs) [] l e s = absurd (omega arith)
+higher h k (x ∷ xs) (y ∷ ys) l e s =
+    higher (h * 256 + fold x) (k * 256 + fold y) xs ys (omega (arith, fold-byte x (s 0))) (omega arith) (λ i. s (suc i))
+
+-- the shorter name is before the longer one
+pub longer : (h k : ℕ) (a b : List ℕ) → 1 ≤ k → h ≤ k → length a < length b → Bytes a → rank_from h a < rank_from k b
+unfolding rank_from
+longer h k a [] o l e s = absurd (omega arith)
+longer h k a (y ∷ ys) o l e s =
+    by_cases (eqb (length a) (length ys))
+    (λ t. higher h (k * 256 + fold y) a ys (omega arith) (eqb-true _ _ t) s)
+    (λ t. longer h (k * 256 + fold y) a ys (omega arith) (omega arith) (omega (arith, eqb-false (length a) (length ys) t)) s)
+
+-- names that are equal with case ignored have one number
+pub same-rank : (h : ℕ) (a b : List ℕ) → same_by fold a b ≡ true → rank_from h a ≡ rank_from h b
+unfolding rank_from same_by
+same-rank h [] [] e = refl
+same-rank h [] (y ∷ ys) e = absurd (true≢false (sym e))
+same-rank h (x ∷ xs) [] e = absurd (true≢false (sym e))
+same-rank h (x ∷ xs) (y ∷ ys) e =
+    let q : fold x ≡ fold y = eqb-true _ _ (and_left (eqb (fold x) (fold y)) (same_by fold xs ys) e) in
+    rw q (same-rank (h * 256 + fold y) xs ys (and_right (eqb (fold x) (fold y)) (same_by fold xs ys) e))
+
+-- the first i bytes of two names agree, case ignored: they are the digits of one number
+pub record Agree (a b : List ℕ) (i : ℕ) : Type 0 where
+  pub high : ℕ
+  pub left : rank a ≡ rank_from high (drop i a)
+  pub right : rank b ≡ rank_from high (drop i b)
+
+pub flipped : {a b : List ℕ} {i : ℕ} → Agree a b i → Agree b a i
+flipped g = record { high = g.high; left = g.right; right = g.left }
+
+pub rank-next : (h i : ℕ) (name : List ℕ) → i < length name → rank_from h (drop i name) ≡ rank_from (h * 256 + fold (get_or name i 0)) (drop (i + 1) name)
+unfolding rank_from
+rank-next h i name l = rw (add-one, drop-cons name i 0)
+
+module _ (a b : List ℕ) (i : ℕ) (long : length a ≡ length b) where
+  module _ (within : i < length a) (g : Agree a b i) where
+    pub agree-next : fold (get_or a i 0) ≡ fold (get_or b i 0) → Agree a b (i + 1)
+    agree-next e = record {
+      high = g.high * 256 + fold (get_or b i 0);
+      left = g.left ∙ rank-next g.high i a within ∙ ap (λ (x : ℕ). rank_from (g.high * 256 + x) (drop (i + 1) a)) e;
+      right = g.right ∙ rank-next g.high i b (omega arith);
+    }
+
+    pub agree-less : Bytes a → fold (get_or a i 0) < fold (get_or b i 0) → rank a < rank b
+    agree-less s l =
+        rw (g.left, g.right, rank-next g.high i a within, rank-next g.high i b (omega arith))
+        (higher (g.high * 256 + fold (get_or a i 0)) (g.high * 256 + fold (get_or b i 0)) (drop (i + 1) a) (drop (i + 1) b) (omega arith)
+        (omega (arith, length-drop (i + 1) a, length-drop (i + 1) b)) (λ j. rw get_or-drop (s (i + 1 + j))))
+
+  -- whether they are equal, by the bytes from there on
+  pub same-next : i < length a → fold (get_or a i 0) ≡ fold (get_or b i 0) → same_by fold (drop i a) (drop i b) ≡ same_by fold (drop (i + 1) a) (drop (i + 1) b)
+  unfolding same_by
+  same-next l e =
+      let k : i < length b = omega arith in
+      rw (add-one, drop-cons a i 0, drop-cons b i 0, eq-eqb _ _ e)
+
+  pub same-end : length a ≤ i → same_by fold (drop i a) (drop i b) ≡ true
+  unfolding same_by
+  same-end l =
+      let k : length b ≤ i = omega arith in
+      rw (drop_of_length-le a l, drop_of_length-le b k)
