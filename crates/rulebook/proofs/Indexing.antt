@@ -1,4 +1,4 @@
--- The index of a book: the last entry with a name is among those with its signature, each of which leads to the one before, and one entry
+-- The chains of an index: the last entry with a name is among those with its signature, each of which leads to the one before, and one entry
 -- more keeps that so. By induction over the entries. Assumes nothing.
 use mathlib.Core.Path.{◌≡◌, refl, sym, ap, ◌∙◌}
 use mathlib.Core.Bool.{Bool, true, false, cond, true≢false}
@@ -15,7 +15,7 @@ use Rattle.ascii.specs.Text.{part, same_by, comparing}
 use Rattle.rulebook.specs.declared.index.NameIndex.{NameIndex}
 use Rattle.rulebook.specs.Book.{name_at, place_after, Laid}
 use Rattle.rulebook.specs.Signature.{signature}
-use Rattle.rulebook.specs.Index.{name_of, slot_of, last_slot, last_named, Indexed, Blank}
+use Rattle.rulebook.specs.Index.{name_of, slot_of, last_slot, last_named, number_told, place_told, name_told, Told, Chained, Indexed, Blank}
 use Rattle.rulebook.proofs.Laying.{place-snoc, laid-at}
 use Rattle.rulebook.proofs.Signatures.{signed-apart}
 
@@ -97,6 +97,26 @@ module _ (lead first : ℕ) (bs : List ℕ) where
     unfolding last_named
     last-before m h = rw (add-one m, h)
 
+-- the entry that a slot tells of
+module _ (lead first : ℕ) (bs : List ℕ) where
+  pub number-told : (m slot : ℕ) → m < 256 → slot ≡ slot_of lead first bs m → number_told slot ≡ m
+  number-told m slot h e = omega arith
+
+  pub told-slot : (n m slot : ℕ) → m < n → n ≤ 255 → slot ≡ slot_of lead first bs m → Told lead first n bs slot
+  told-slot n m slot h few e =
+      let q : number_told slot ≡ m = number-told m slot (omega arith) e in
+      record { within = omega arith; is = rw q e }
+
+module _ {lead first n slot : ℕ} {bs : List ℕ} (t : Told lead first n bs slot) where
+  pub place-told : place_told first slot ≡ place_after lead (number_told slot) first bs
+  place-told = omega (arith, t.is, behind-first lead first bs (number_told slot))
+
+  pub name-told : name_told lead first bs slot ≡ name_of lead first bs (number_told slot)
+  name-told = ap (λ (p : ℕ). part bs (name_at lead p bs)) place-told
+
+  pub inside-told : Laid lead n first bs → (name_at lead (place_told first slot) bs).end ≤ length bs
+  inside-told laid = rw place-told (laid-at lead bs n (number_told slot) first t.within laid)
+
 -- a slot of the index tells of the last of the first k entries with the name's signature, and none of the others has the name
 pub record Telling (lead first : ℕ) (bs : List ℕ) (ic : Bool) (name : List ℕ) (n slot : ℕ) : Type 0 where
   pub k : ℕ
@@ -110,51 +130,54 @@ told-none {lead} {first} {bs = bs} {ic = ic} {name = name} t z = sym t.rest ∙ 
 
 -- it is not 0
 module _ {lead first n slot : ℕ} {bs : List ℕ} {ic : Bool} {name : List ℕ} {index : NameIndex}
-    (d : Indexed lead first n bs index) (laid : Laid lead n first bs) (t : Telling lead first bs ic name n slot) (some : slot ≡ 0 → ⊥) where
+    (few : n ≤ 255) (d : Chained lead first n bs index) (t : Telling lead first bs ic name n slot) (some : slot ≡ 0 → ⊥) where
   entry : Reached lead first bs ic name t.k slot
   entry = rw t.is (reached lead first bs ic name t.k (λ z. some (t.is ∙ z)))
 
-  number : (slot - 1) % 256 ≡ entry.m
-  number = omega (arith, t.within, entry.is, entry.below, d.few)
+  number : number_told slot ≡ entry.m
+  number = number-told lead first bs entry.m slot (omega (arith, t.within, entry.below)) entry.is
 
-  place : first + (slot - 1) / 256 ≡ place_after lead entry.m first bs
-  place = omega (arith, t.within, entry.is, entry.below, d.few, behind-first lead first bs entry.m)
+  pub told-entry : Told lead first n bs slot
+  told-entry = told-slot lead first bs n entry.m slot (omega (arith, t.within, entry.below)) few entry.is
 
-  pub inside : (name_at lead (first + (slot - 1) / 256) bs).end ≤ length bs
-  inside = rw place (laid-at lead bs n entry.m first (omega (arith, t.within, entry.below)) laid)
+  named : name_told lead first bs slot ≡ name_of lead first bs entry.m
+  named = name-told told-entry ∙ ap (name_of lead first bs) number
 
   -- it has the name, or the last one before it with the same signature is asked
-  pub found-here : same_by (comparing ic) (part bs (name_at lead (first + (slot - 1) / 256) bs)) name ≡ true
-      → last_named (comparing ic) name lead first bs n ≡ Some (record { index = (slot - 1) % 256; at = first + (slot - 1) / 256 })
-  found-here h = rw (number, place) (sym t.rest ∙ entry.rest ∙ last-here lead first bs ic name entry.m (rw place at h))
+  pub found-here : same_by (comparing ic) (name_told lead first bs slot) name ≡ true
+      → last_named (comparing ic) name lead first bs n ≡ Some (record { index = number_told slot; at = place_told first slot })
+  found-here h = rw (place-told told-entry, number) (sym t.rest ∙ entry.rest ∙ last-here lead first bs ic name entry.m (rw named at h))
 
-  linked : get_or index.links ((slot - 1) % 256) 0 ≡ last_slot lead first bs (signature name) entry.m
+  linked : get_or index.slots (number_told slot) 0 ≡ last_slot lead first bs (signature name) entry.m
   linked = rw number (d.links entry.m (omega (arith, t.within, entry.below)) ∙ ap (λ (q : ℕ). last_slot lead first bs q entry.m) entry.signed)
 
-  pub link-less : get_or index.links ((slot - 1) % 256) 0 < slot
+  pub link-less : get_or index.slots (number_told slot) 0 < slot
   link-less = rw linked (omega (arith, slot-low lead first bs (signature name) entry.m, entry.is))
 
-  pub found-before : same_by (comparing ic) (part bs (name_at lead (first + (slot - 1) / 256) bs)) name ≡ false
-      → Telling lead first bs ic name n (get_or index.links ((slot - 1) % 256) 0)
+  pub found-before : same_by (comparing ic) (name_told lead first bs slot) name ≡ false
+      → Telling lead first bs ic name n (get_or index.slots (number_told slot) 0)
   found-before h = record {
     k = entry.m;
     within = omega (arith, t.within, entry.below);
     is = linked;
-    rest = sym (last-before lead first bs ic name entry.m (rw place at h)) ∙ sym entry.rest ∙ t.rest;
+    rest = sym (last-before lead first bs ic name entry.m (rw named at h)) ∙ sym entry.rest ∙ t.rest;
   }
 
 module _ (lead first : ℕ) (bs : List ℕ) where
   -- no entry yet
-  pub indexed-none : (index : NameIndex) → lead ≤ 1 → Blank index → Indexed lead first 0 bs index
+  chained-none : (index : NameIndex) → Blank index → Chained lead first 0 bs index
   unfolding last_slot
-  indexed-none index l z = record { low = l; few = omega arith; heads = λ q h. z q; links = λ m h. absurd (omega arith) }
+  chained-none index z = record { heads = λ q h. z.0 q; links = λ m h. absurd (omega arith) }
+
+  pub indexed-none : (index : NameIndex) → lead ≤ 1 → Blank index → Indexed lead first 0 bs index
+  indexed-none index l z = record { low = l; few = omega arith; chains = λ e. chained-none index z; order = λ e. absurd (true≢false (sym e ∙ z.1)) }
 
   -- one entry more
-  module _ (index : NameIndex) (m mark : ℕ) (few : m < 255) (wide : length index.heads ≡ 256) (long : length index.links ≡ 256) (small : mark < 256)
-      (is : mark ≡ signature (name_of lead first bs m)) (c : Indexed lead first m bs index) where
+  module _ (index : NameIndex) (m mark : ℕ) (few : m < 255) (wide : length index.heads ≡ 256) (long : length index.slots ≡ 256) (small : mark < 256)
+      (is : mark ≡ signature (name_of lead first bs m)) (c : Chained lead first m bs index) where
     -- the entry leads to the last one with its signature, and is that one from now on
     abbrev pub added : NameIndex
-    added = record { heads = set index.heads mark (slot_of lead first bs m); links = set index.links m (get_or index.heads mark 0) }
+    added = record { heads = set index.heads mark (slot_of lead first bs m); slots = set index.slots m (get_or index.heads mark 0); sorted = index.sorted }
 
     head : (q : ℕ) → q < 256 → (b : Bool) → eqb (signature (name_of lead first bs m)) q ≡ b
         → get_or added.heads q 0 ≡ cond b (slot_of lead first bs m) (last_slot lead first bs q m)
@@ -167,22 +190,23 @@ module _ (lead first : ℕ) (bs : List ℕ) where
         ne z = eq-eqb _ _ (sym is ∙ sym z)
 
     link : (j : ℕ) → j < m + 1 → (b : Bool) → eqb j m ≡ b
-        → get_or added.links j 0 ≡ last_slot lead first bs (signature (name_of lead first bs j)) j
+        → get_or added.slots j 0 ≡ last_slot lead first bs (signature (name_of lead first bs j)) j
     link j h true e =
         let z : j ≡ m = eqb-true _ _ e in
         rw z
-        (get_or-set_same index.links m (get_or index.heads mark 0) 0 (omega arith)
+        (get_or-set_same index.slots m (get_or index.heads mark 0) 0 (omega arith)
         ∙ c.heads mark small
         ∙ ap (λ (q : ℕ). last_slot lead first bs q m) is)
     link j h false e =
         let z : (j ≡ m → ⊥) = λ y. true≢false (sym (eq-eqb _ _ y) ∙ e) in
-        get_or-set_other index.links m j (get_or index.heads mark 0) 0 z ∙ c.links j (omega (arith, z))
+        get_or-set_other index.slots m j (get_or index.heads mark 0) 0 z ∙ c.links j (omega (arith, z))
 
-    pub indexed-next : Indexed lead first (m + 1) bs added
+    chained-next : Chained lead first (m + 1) bs added
     unfolding last_slot
-    indexed-next = record {
-      low = c.low;
-      few = omega arith;
+    chained-next = record {
       heads = λ q h. rw (add-one m) (head q h (eqb (signature (name_of lead first bs m)) q) refl);
       links = λ j h. link j h (eqb j m) refl;
     }
+
+    pub indexed-next : lead ≤ 1 → index.sorted ≡ false → Indexed lead first (m + 1) bs added
+    indexed-next l f = record { low = l; few = omega arith; chains = λ e. chained-next; order = λ e. absurd (true≢false (sym e ∙ f)) }

@@ -13,7 +13,7 @@ use borrow.Author.Tests.{eqb-true, eqb-false, eq-eqb}
 use Rattle.std.proofs.lemmas.List.{get_or-drop}
 use Rattle.std.proofs.lemmas.Bool.Decides.{nat_tests}
 use Rattle.ascii.specs.Ascii.{fold}
-use Rattle.ascii.specs.Text.{same_by}
+use Rattle.ascii.specs.Text.{same_by, comparing}
 use Rattle.ascii.proofs.Flags.{by_cases, and_left, and_right}
 use Rattle.rulebook.specs.Order.{rank_from, rank}
 
@@ -51,6 +51,17 @@ same-rank h (x ∷ xs) [] e = absurd (true≢false (sym e))
 same-rank h (x ∷ xs) (y ∷ ys) e =
     let q : fold x ≡ fold y = eqb-true _ _ (and_left (eqb (fold x) (fold y)) (same_by fold xs ys) e) in
     rw q (same-rank (h * 256 + fold y) xs ys (and_right (eqb (fold x) (fold y)) (same_by fold xs ys) e))
+
+-- names that are equal are so with case ignored too
+pub same-folded : (ic : Bool) (a b : List ℕ) → same_by (comparing ic) a b ≡ true → same_by fold a b ≡ true
+unfolding same_by
+same-folded true a b h = h
+same-folded false [] [] h = refl
+same-folded false [] (y ∷ ys) h = h
+same-folded false (x ∷ xs) [] h = h
+same-folded false (x ∷ xs) (y ∷ ys) h =
+    let e : x ≡ y = eqb-true x y (and_left (eqb x y) (same_by (comparing false) xs ys) h) in
+    rw (e, eq-eqb (fold y) (fold y) refl) (same-folded false xs ys (and_right (eqb x y) (same_by (comparing false) xs ys) h))
 
 -- the first i bytes of two names agree, case ignored: they are the digits of one number
 pub record Agree (a b : List ℕ) (i : ℕ) : Type 0 where

@@ -1,16 +1,22 @@
--- The index of a book: for each signature the last entry that has it, and for each entry the one before it with the same signature.
+-- The index of a book: for each kind of entries one in one of two forms. Mostly these are chains: for each signature the last entry that has it,
+-- and for each entry the one before it with the same signature. Where a chain would be long, as in a book that is made for it, the entries stand
+-- in the order of their names instead.
 -- It is made with the check of the book, and look-ups under the book go by it. A slot is 0 if there is no such entry.
-use Rattle.std.specs.Prelude.{ℕ, zero, suc, ◌+◌, ◌-◌, ◌*◌, ◌<◌, ◌≤◌, cond, List, [], ◌≡◌, get_or, eqb}
+use Rattle.std.specs.Prelude.{ℕ, zero, suc, ◌+◌, ◌-◌, ◌*◌, ◌/◌, ◌%◌, ◌<◌, ◌≤◌, true, false, cond, List, [], ◌≡◌, get_or, eqb}
 use Rattle.std.specs.Prelude.{Option, Some, None}
+use Rattle.ascii.specs.Ascii.{fold}
 use Rattle.ascii.specs.Text.{part, same_by}
 use Rattle.bookform.specs.declared.Entries.{Entries}
 use Rattle.bookform.specs.Format.{lead_of}
 use Rattle.rulebook.specs.declared.index.FoundEntry.{FoundEntry}
 use Rattle.rulebook.specs.declared.index.NameIndex.{NameIndex}
 use Rattle.rulebook.specs.declared.index.Index.{Index}
-use Rattle.rulebook.specs.Book.{name_at, place_after, entries_in, header_of}
-use Rattle.rulebook.specs.Check.{repeat_from}
+use Rattle.rulebook.specs.declared.repeats.Entered.{Entered}
+use Rattle.rulebook.specs.declared.repeats.Entered.TheVariants.{New, Repeat, LongChain}
+use Rattle.rulebook.specs.Book.{name_at, entries_from, place_after, entries_in, header_of}
+use Rattle.rulebook.specs.Check.{is_named, repeat_from}
 use Rattle.rulebook.specs.Signature.{signature}
+use Rattle.rulebook.specs.Order.{rank}
 
 -- the name of entry m of those from a place on, counted from 0
 abbrev pub name_of : ℕ → ℕ → List ℕ → ℕ → List ℕ
@@ -31,16 +37,70 @@ unfolding same_by
 last_named f name lead first bs zero = None
 last_named f name lead first bs (suc m) = cond (same_by f (name_of lead first bs m) name) (Some (record { index = m; at = place_after lead m first bs })) (last_named f name lead first bs m)
 
--- what an index tells of the first n entries of a kind: the last entry with each signature, and for each entry the one before it
+-- the number, the place and the name of the entry that a slot tells of
+abbrev pub number_told : ℕ → ℕ
+number_told slot = (slot - 1) % 256
+
+abbrev pub place_told : ℕ → ℕ → ℕ
+place_told first slot = first + (slot - 1) / 256
+
+abbrev pub name_told : ℕ → ℕ → List ℕ → ℕ → List ℕ
+name_told lead first bs slot = part bs (name_at lead (place_told first slot) bs)
+
+-- a slot tells of one of the first n entries
+pub record Told (lead first n : ℕ) (bs : List ℕ) (slot : ℕ) : Type 0 where
+  pub within : number_told slot < n
+  pub is : slot ≡ slot_of lead first bs (number_told slot)
+
+-- the chains of the first n entries: the last entry with each signature, and for each entry the one before it
+pub record Chained (lead first n : ℕ) (bs : List ℕ) (index : NameIndex) : Type 0 where
+  pub heads : (q : ℕ) → q < 256 → get_or index.heads q 0 ≡ last_slot lead first bs q n
+  pub links : (m : ℕ) → m < n → get_or index.slots m 0 ≡ last_slot lead first bs (signature (name_of lead first bs m)) m
+
+-- the first n entries in the order of their names
+pub record Sorted (lead first n : ℕ) (bs slots : List ℕ) : Type 0 where
+  -- each slot tells of one of them
+  pub told : (i : ℕ) → i < n → Told lead first n bs (get_or slots i 0)
+  -- the name of each is before those of all behind it
+  pub rising : (i j : ℕ) → i < j → j < n → rank (name_told lead first bs (get_or slots i 0)) < rank (name_told lead first bs (get_or slots j 0))
+  -- none of them has no slot
+  pub whole : (m : ℕ) → m < n → ((i : ℕ) → i < n → get_or slots i 0 ≡ slot_of lead first bs m → ⊥) → ⊥
+
+-- what an index tells of the first n entries of a kind, in either form
 pub record Indexed (lead first n : ℕ) (bs : List ℕ) (index : NameIndex) : Type 0 where
   pub low : lead ≤ 1
   pub few : n ≤ 255
-  pub heads : (q : ℕ) → q < 256 → get_or index.heads q 0 ≡ last_slot lead first bs q n
-  pub links : (m : ℕ) → m < n → get_or index.links m 0 ≡ last_slot lead first bs (signature (name_of lead first bs m)) m
+  pub chains : index.sorted ≡ false → Chained lead first n bs index
+  pub order : index.sorted ≡ true → Sorted lead first n bs index.slots
+
+-- where a name belongs in the order, which no entry has: those before the place come before it, the others behind it
+pub record Belongs (lead first n : ℕ) (bs slots name : List ℕ) (place : ℕ) : Type 0 where
+  pub within : place ≤ n
+  pub before : (i : ℕ) → i < place → rank (name_told lead first bs (get_or slots i 0)) < rank name
+  pub behind : (i : ℕ) → place ≤ i → i < n → rank name < rank (name_told lead first bs (get_or slots i 0))
+
+-- slots with one more at a place, and those behind it one further
+pub record Inserted (old new : List ℕ) (n place slot : ℕ) : Type 0 where
+  pub before : (i : ℕ) → i < place → get_or new i 0 ≡ get_or old i 0
+  pub here : get_or new place 0 ≡ slot
+  pub behind : (i : ℕ) → place ≤ i → i < n → get_or new (i + 1) 0 ≡ get_or old i 0
+
+-- the entry behind the first n: its name and its slot
+pub record Next (lead first n : ℕ) (bs name : List ℕ) (slot : ℕ) : Type 0 where
+  pub few : n < 255
+  pub named : name ≡ name_of lead first bs n
+  pub is : slot ≡ slot_of lead first bs n
+
+-- What came of entering it: the index tells of one entry more, unless the name repeats an earlier one. That a chain is long says no more than
+-- that there are chains.
+abbrev pub Enters : ℕ → ℕ → ℕ → List ℕ → List ℕ → NameIndex → NameIndex → Entered → Type 0
+Enters lead first n bs name old new New = (is_named fold name (entries_from lead n first bs) ≡ false) × Indexed lead first (n + 1) bs new × (new.sorted ≡ old.sorted)
+Enters lead first n bs name old new Repeat = is_named fold name (entries_from lead n first bs) ≡ true
+Enters lead first n bs name old new LongChain = old.sorted ≡ false
 
 -- an index with no entry yet
 abbrev pub Blank : NameIndex → Type 0
-Blank index = (q : ℕ) → get_or index.heads q 0 ≡ 0
+Blank index = ((q : ℕ) → get_or index.heads q 0 ≡ 0) × (index.sorted ≡ false)
 
 abbrev pub Fresh : Index → Type 0
 Fresh index = Blank index.directives × Blank index.clauses

@@ -1,23 +1,26 @@
 // The index of a book, and looking names up by it.
-ghost use Rattle.std.specs.Prelude.{◌≡◌, ◌<◌};
+ghost use Rattle.std.specs.Prelude.{◌≡◌, ◌<◌, ◌≤◌, false};
 ghost use Rattle.ascii.specs.Text.{comparing};
 ghost use Rattle.bookform.specs.Format.{lead_of};
 ghost use Rattle.rulebook.specs.Book.{entries_in};
 ghost use Rattle.rulebook.specs.Lookup.{find_from};
 ghost use Rattle.rulebook.specs.Signature.{signature as signature_of};
-ghost use Rattle.rulebook.specs.Index.{last_named, Indexed, Looked, Fresh, Blank};
+ghost use Rattle.rulebook.specs.Index.{last_named, number_told, place_told, name_told, Told, Chained, Looked, Fresh, Blank};
 
 use crate::lookup::{name_at, same};
 use crate::names::Listed;
 use ascii::class::fold;
 
-// The entries of one kind: for each signature the last entry that has it, and for each entry the one before it with the same. A slot is one
-// word, 0 if there is no entry, so that a link is followed by one load and the whole index is 4 KB: how far behind the first the entry
-// stands, and its number.
+// The entries of one kind, in one of two forms. Mostly they are chains: for each signature the last entry that has it, and for each entry the
+// one before it with the same. Names may be chosen so that one chain has them all: then the entries stand in the order of their names. A slot is one word, 0 if
+// there is no entry, so that a link is followed by one load and the whole index is 4 KB: how far behind the first the entry stands, and its number.
 #[derive(Drop)]
 pub struct NameIndex {
+    // of each signature; no use is made of them in the order
     pub heads: [u32; 256],
-    pub links: [u32; 256],
+    // one for each entry: that of the one before it on its chain, or the entries in order
+    pub slots: [u32; 256],
+    pub sorted: bool,
 }
 
 impl NameIndex {
@@ -26,7 +29,8 @@ impl NameIndex {
     {
         NameIndex {
             heads: [0; 256],
-            links: [0; 256],
+            slots: [0; 256],
+            sorted: false,
         }
     }
 
@@ -39,23 +43,18 @@ impl NameIndex {
         ignore_case: bool,
     ) -> Option<FoundEntry>
         requires mark_bound { (mark < 256) × (mark ≡ signature_of name.now) }
-        requires indexed { Indexed (lead_of listed.entries.kind) listed.entries.first listed.entries.count listed.book.now self.now }
+        requires few { listed.entries.count ≤ 255 }
+        requires chained { Chained (lead_of listed.entries.kind) listed.entries.first listed.entries.count listed.book.now self.now }
         ensures { result ≡ last_named (comparing ignore_case) name.now (lead_of listed.entry.entries.kind) listed.entry.entries.first listed.entry.book.now listed.entry.entries.count }
     {
-        let book = listed.book;
-        let entries = listed.entries;
-        let lead = entries.kind.lead();
         let mut slot = self.heads[mark];
         // by links
         while slot != 0 {
-            let told = (slot - 1) as usize;
-            let number = told % 256;
-            let at = entries.first + told / 256;
-            let range = name_at(book, lead, at);
-            if same(&book[range.start..range.end], name, ignore_case) {
-                return Some(FoundEntry { index: number, at });
+            let (entry, entry_name) = told(listed, slot);
+            if same(entry_name, name, ignore_case) {
+                return Some(entry);
             }
-            slot = self.links[number];
+            slot = self.slots[entry.index];
         }
         None
     }
@@ -65,8 +64,27 @@ impl NameIndex {
         requires { Looked listed.entries listed.book.now self.now }
         ensures { result ≡ find_from (comparing ignore_case) 0 name.now (entries_in listed.entry.entries listed.entry.book.now) }
     {
-        self.last_named(listed, signature(name), name, ignore_case)
+        if self.sorted {
+            self.sorted_named(listed, name, ignore_case)
+        } else {
+            self.last_named(listed, signature(name), name, ignore_case)
+        }
     }
+}
+
+// The entry that a slot tells of, and its name.
+pub fn told<'a>(listed: Listed<'a>, slot: u32) -> (FoundEntry, &'a [u8])
+    requires { Told (lead_of listed.entries.kind) listed.entries.first listed.entries.count listed.book.now slot }
+    ensures entry { result.0 ≡ record { index = number_told slot; at = place_told listed.entry.entries.first slot } }
+    ensures name { result.1.now ≡ name_told (lead_of listed.entry.entries.kind) listed.entry.entries.first listed.entry.book.now slot }
+{
+    let told = (slot - 1) as usize;
+    let entry = FoundEntry {
+        index: told % 256,
+        at: listed.entries.first + told / 256,
+    };
+    let range = name_at(listed.book, listed.entries.kind.lead(), entry.at);
+    (entry, &listed.book[range.start..range.end])
 }
 
 // The index of a book, which the caller lends: a kind of entries each.

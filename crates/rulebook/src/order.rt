@@ -1,7 +1,14 @@
-// The order of names.
-ghost use Rattle.std.specs.Prelude.{◌≡◌, ◌<◌};
+// The order of names, and an index in it.
+ghost use Rattle.std.specs.Prelude.{◌≡◌, true, ◌<◌, ◌≤◌, get_or, MatchResult};
+ghost use Rattle.ascii.specs.Ascii.{fold};
+ghost use Rattle.ascii.specs.Text.{same_by, comparing};
+ghost use Rattle.bookform.specs.Format.{lead_of};
 ghost use Rattle.rulebook.specs.Order.{Compared};
+ghost use Rattle.rulebook.specs.Index.{last_named, name_told, Sorted, Belongs, Inserted};
 
+use crate::index::{FoundEntry, NameIndex, told};
+use crate::lookup::same;
+use crate::names::Listed;
 use ascii::class::fold;
 use ascii::same_byte;
 use std::cmp::Ordering;
@@ -23,4 +30,61 @@ pub fn compare(a: &[u8], b: &[u8]) -> Ordering
         }
     }
     Ordering::Equal
+}
+
+impl NameIndex {
+    // The place of an entry that has a name, case ignored, or else where in the order the name belongs.
+    pub fn search(&self, listed: Listed, name: &[u8]) -> Result<usize, usize>
+        requires bound { listed.entries.count ≤ 255 }
+        requires sorted { Sorted (lead_of listed.entries.kind) listed.entries.first listed.entries.count listed.book.now self.now.slots }
+        ensures { MatchResult result
+            (λ place. (place < listed.entry.entries.count)
+            × (same_by fold (name_told (lead_of listed.entry.entries.kind) listed.entry.entries.first listed.entry.book.now (get_or self.now.slots place 0)) name.now ≡ true))
+            (Belongs (lead_of listed.entry.entries.kind) listed.entry.entries.first listed.entry.entries.count listed.entry.book.now self.now.slots name.now) }
+    {
+        let mut low = 0;
+        let mut high = listed.entries.count;
+        while low < high {
+            let middle = (low + high) / 2;
+            let (_, entry_name) = told(listed, self.slots[middle]);
+            match compare(entry_name, name) {
+                Ordering::Less => low = middle + 1,
+                Ordering::Equal => return Ok(middle),
+                Ordering::Greater => high = middle,
+            }
+        }
+        Err(low)
+    }
+
+    // The entry that has a name, in the order: the only one that may.
+    pub fn sorted_named(
+        &self,
+        listed: Listed,
+        name: &[u8],
+        ignore_case: bool,
+    ) -> Option<FoundEntry>
+        requires bound { listed.entries.count ≤ 255 }
+        requires sorted { Sorted (lead_of listed.entries.kind) listed.entries.first listed.entries.count listed.book.now self.now.slots }
+        ensures { result ≡ last_named (comparing ignore_case) name.now (lead_of listed.entry.entries.kind) listed.entry.entries.first listed.entry.book.now listed.entry.entries.count }
+    {
+        let Ok(place) = self.search(listed, name) else {
+            return None;
+        };
+        let (entry, entry_name) = told(listed, self.slots[place]);
+        if same(entry_name, name, ignore_case) {
+            Some(entry)
+        } else {
+            None
+        }
+    }
+
+    // Puts a slot at a place among so many, those behind it one further.
+    pub fn insert(&mut self, count: usize, place: usize, slot: u32)
+        requires in_bounds { (place ≤ count) × (count < 255) }
+        ensures unchanged { (self.new.heads ≡ self.old.heads) × (self.new.sorted ≡ self.old.sorted) }
+        ensures inserted { Inserted self.old.slots self.new.slots count place slot }
+    {
+        self.slots.copy_within(place..count, place + 1);
+        self.slots[place] = slot;
+    }
 }

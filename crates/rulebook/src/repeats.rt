@@ -1,30 +1,133 @@
 // Names that repeat earlier ones, found by the index that is made on the way.
-ghost use Rattle.std.specs.Prelude.{◌≡◌, ℕ, [], None, ◌<◌, ◌≤◌, get_or, MatchResult};
+ghost use Rattle.std.specs.Prelude.{◌≡◌, ℕ, true, false, [], None, ◌<◌, ◌≤◌, get_or, MatchResult};
+ghost use Rattle.std.specs.Option.{MatchOption};
 ghost use Rattle.ascii.specs.Ascii.{fold};
 ghost use Rattle.bookform.specs.Format.{lead_of};
 ghost use Rattle.rulebook.specs.Book.{place_after, entries_in, header_of, book_of};
 ghost use Rattle.refusal.specs.Verdict.{refusal_at};
 ghost use Rattle.rulebook.specs.Check.{is_named, repeat_from, or_else, book_fault};
 ghost use Rattle.rulebook.specs.Signature.{signature as signature_of};
-ghost use Rattle.rulebook.specs.Index.{Indexed, Fresh, Blank, Indexes};
+ghost use Rattle.rulebook.specs.Index.{Chained, Indexed, Next, Enters, Fresh, Blank, Indexes};
 
 use crate::index::{Index, NameIndex, signature};
 use crate::lookup::FormedBook;
 use crate::names::Listed;
 use refusal::{Reason, Refusal};
 
+// So many entries are few for one signature. Where more would have to be asked, the entries are put in order.
+const LONG_CHAIN: usize = 8;
+
+// What came of entering a name into an index.
+pub enum Entered {
+    New,
+    Repeat,
+    LongChain,
+}
+
 // Whether an earlier entry has a name, case ignored.
 fn is_repeat(earlier: Listed, index: &NameIndex, mark: usize, name: &[u8]) -> bool
     requires mark_bound { (mark < 256) × (mark ≡ signature_of name.now) }
-    requires indexed { Indexed (lead_of earlier.entries.kind) earlier.entries.first earlier.entries.count earlier.book.now index.now }
+    requires few { earlier.entries.count ≤ 255 }
+    requires chained { Chained (lead_of earlier.entries.kind) earlier.entries.first earlier.entries.count earlier.book.now index.now }
     ensures { result ≡ is_named fold name.now (entries_in earlier.entry.entries earlier.entry.book.now) }
 {
     // most names are the first with their signature
     index.heads[mark] != 0 && index.last_named(earlier, mark, name, true).is_some()
 }
 
-// Refusal 4 at the first entry that repeats an earlier one's name, case ignored; else where the entries end, and the index is made. The place is
-// counted beside the names: an iterator of both would have each of its other callers take a pair apart.
+impl NameIndex {
+    // Whether more entries have a signature than are few. No answer is a wrong one: it picks the form that is quick.
+    fn is_long(&self, mark: usize) -> bool
+        requires { mark < 256 }
+    {
+        let mut slot = self.heads[mark];
+        for _ in 0..LONG_CHAIN {
+            if slot == 0 {
+                return false;
+            }
+            slot = self.slots[((slot - 1) % 256) as usize];
+        }
+        slot != 0
+    }
+
+    // On the chain of its signature.
+    fn enter_chain(&mut self, earlier: Listed, name: &[u8], slot: u32) -> Entered
+        requires chains { self.old.sorted ≡ false }
+        requires next { Next (lead_of earlier.entries.kind) earlier.entries.first earlier.entries.count earlier.book.now name.now slot }
+        requires indexed { Indexed (lead_of earlier.entries.kind) earlier.entries.first earlier.entries.count earlier.book.now self.old }
+        ensures { Enters (lead_of earlier.entry.entries.kind) earlier.entry.entries.first earlier.entry.entries.count earlier.entry.book.now name.now self.old self.new result }
+    {
+        let mark = signature(name);
+        if self.is_long(mark) {
+            return Entered::LongChain;
+        }
+        if is_repeat(earlier, self, mark, name) {
+            return Entered::Repeat;
+        }
+        self.slots[earlier.entries.count] = self.heads[mark];
+        self.heads[mark] = slot;
+        Entered::New
+    }
+
+    // In the order.
+    fn enter_sorted(&mut self, earlier: Listed, name: &[u8], slot: u32) -> Entered
+        requires sorted { self.old.sorted ≡ true }
+        requires next { Next (lead_of earlier.entries.kind) earlier.entries.first earlier.entries.count earlier.book.now name.now slot }
+        requires indexed { Indexed (lead_of earlier.entries.kind) earlier.entries.first earlier.entries.count earlier.book.now self.old }
+        ensures { Enters (lead_of earlier.entry.entries.kind) earlier.entry.entries.first earlier.entry.entries.count earlier.entry.book.now name.now self.old self.new result }
+    {
+        match self.search(earlier, name) {
+            Ok(_) => Entered::Repeat,
+            Err(place) => {
+                self.insert(earlier.entries.count, place, slot);
+                Entered::New
+            }
+        }
+    }
+
+    // The entry behind the earlier ones, by its name and its slot, is entered in the index's form.
+    fn enter(&mut self, earlier: Listed, name: &[u8], slot: u32) -> Entered
+        requires next { Next (lead_of earlier.entries.kind) earlier.entries.first earlier.entries.count earlier.book.now name.now slot }
+        requires indexed { Indexed (lead_of earlier.entries.kind) earlier.entries.first earlier.entries.count earlier.book.now self.old }
+        ensures { Enters (lead_of earlier.entry.entries.kind) earlier.entry.entries.first earlier.entry.entries.count earlier.entry.book.now name.now self.old self.new result }
+    {
+        if self.sorted {
+            self.enter_sorted(earlier, name, slot)
+        } else {
+            self.enter_chain(earlier, name, slot)
+        }
+    }
+}
+
+// Refusal 4 at the first entry that repeats an earlier one's name, case ignored; else where the entries end, and the index is made in its form, or
+// nothing if a chain is long. The place is counted beside the names: an iterator of both would have each of its other callers take a pair apart.
+fn enter_all(listed: Listed, index: &mut NameIndex) -> Result<Option<usize>, Refusal>
+    requires few { listed.entries.count ≤ 255 }
+    requires bytes { (i : ℕ) → get_or listed.book.now i 0 < 256 }
+    requires empty { Indexed (lead_of listed.entries.kind) listed.entries.first 0 listed.book.now index.old }
+    ensures { MatchResult result
+        (λ done. MatchOption done (index.old.sorted ≡ false)
+        (λ end. (repeat_from [] (entries_in listed.entry.entries listed.entry.book.now) ≡ None)
+        × (Indexed (lead_of listed.entry.entries.kind) listed.entry.entries.first listed.entry.entries.count listed.entry.book.now index.new)
+        × (end ≡ place_after (lead_of listed.entry.entries.kind) listed.entry.entries.count listed.entry.entries.first listed.entry.book.now)))
+        (λ r. (r ≡ refusal_at Reason.WrongBook r.place) × (repeat_from [] (entries_in listed.entry.entries listed.entry.book.now) ≡ Some r.place)) }
+{
+    let entries = listed.entries;
+    let lead = entries.kind.lead();
+    let mut at = entries.first;
+    for (number, name) in listed.names().enumerate() {
+        let slot = ((at - entries.first) * 256 + number + 1) as u32;
+        match index.enter(listed.first(number), name, slot) {
+            Entered::New => {}
+            Entered::Repeat => return Err(Reason::WrongBook.at(at)),
+            Entered::LongChain => return Ok(None),
+        }
+        at += lead + 1 + name.len();
+    }
+    Ok(Some(at))
+}
+
+// The same by chains, or in order where one of these is long.
 fn repeat_among(listed: Listed, index: &mut NameIndex) -> Result<usize, Refusal>
     requires few { listed.entries.count ≤ 255 }
     requires bytes { (i : ℕ) → get_or listed.book.now i 0 < 256 }
@@ -35,19 +138,15 @@ fn repeat_among(listed: Listed, index: &mut NameIndex) -> Result<usize, Refusal>
         × (end ≡ place_after (lead_of listed.entry.entries.kind) listed.entry.entries.count listed.entry.entries.first listed.entry.book.now))
         (λ r. (r ≡ refusal_at Reason.WrongBook r.place) × (repeat_from [] (entries_in listed.entry.entries listed.entry.book.now) ≡ Some r.place)) }
 {
-    let entries = listed.entries;
-    let lead = entries.kind.lead();
-    let mut at = entries.first;
-    for (number, name) in listed.names().enumerate() {
-        let mark = signature(name);
-        if is_repeat(listed.first(number), index, mark, name) {
-            return Err(Reason::WrongBook.at(at));
-        }
-        index.links[number] = index.heads[mark];
-        index.heads[mark] = ((at - entries.first) * 256 + number + 1) as u32;
-        at += lead + 1 + name.len();
+    if let Some(end) = enter_all(listed, index)? {
+        return Ok(end);
     }
-    Ok(at)
+    index.sorted = true;
+    match enter_all(listed, index)? {
+        Some(end) => Ok(end),
+        // no chain is asked in the order
+        None => unreachable!(),
+    }
 }
 
 impl<'a> FormedBook<'a> {

@@ -12,5 +12,5 @@ returns-then-index-mark-ne0 c =
 
 pub returns-else-index-mark-ne0 : goal.returns-else-index-mark-ne0
 returns-else-index-mark-ne0 c =
-    let e = rw c.requires.mark_bound.1 at (sym (c.requires.indexed.heads c.args.mark c.requires.mark_bound.0) ∙ c.if-index-mark-ne0.false) in
+    let e = rw c.requires.mark_bound.1 at (sym (c.requires.chained.heads c.args.mark c.requires.mark_bound.0) ∙ c.if-index-mark-ne0.false) in
     rw c.if-index-mark-ne0.false (sym (named-last _ _ _ fold _ _ ∙ ap is_found (unreached _ _ _ true _ _ e)))
