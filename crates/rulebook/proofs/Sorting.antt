@@ -1,11 +1,10 @@
 -- The entries in the order of their names: what a search halves, that one entry at most has a name, and that one more, put in where it belongs,
 -- keeps the order. Assumes nothing.
 use mathlib.Core.Path.{◌≡◌, refl, sym, ap, ◌∙◌}
-use mathlib.Core.Bool.{Bool, true, false, cond, true≢false}
+use mathlib.Core.Bool.{Bool, true, false, cond}
 use Rattle.std.specs.Prelude.{Some, None}
 use mathlib.Core.List.{List}
 use Prim.Native.Nat.{ℕ, zero, suc, ◌+◌, ◌-◌, ◌<◌, ◌≤◌}
-use native.Mathlib.Numerals.{add-one}
 use native.Mathlib.Omega.{arith}
 use lib.ListN.{get_or}
 use lib.Dec.{eqb, ltb}
@@ -43,9 +42,6 @@ module _ (lead first : ℕ) (bs : List ℕ) where
     where
       other : (k : ℕ) → k < suc n → (k ≡ m → ⊥) → same_by f (name_of lead first bs k) name ≡ false
       other k g ne = by_cases (same_by f (name_of lead first bs k) name) (λ t. absurd (ne (h k g t))) (λ t. t)
-
-  pub sorted-none : (slots : List ℕ) → Sorted lead first 0 bs slots
-  sorted-none slots = record { told = λ i h. absurd (omega arith); rising = λ i j h g. absurd (omega arith); whole = λ m h. absurd (omega arith) }
 
   module _ {n : ℕ} {slots : List ℕ} (s : Sorted lead first n bs slots) where
     -- the number of the name in a place of the order

@@ -1,7 +1,6 @@
 -- `rulebook::index::NameIndex::search`: what the name in the middle is to the name, those on the one side of it are too.
-use Rattle.std.proofs.Common.{◌<◌, arith}
+use Rattle.std.proofs.Common.{arith}
 use Rattle.bookform.specs.Format.{lead_of}
-use Rattle.rulebook.specs.Order.{rank}
 use Rattle.rulebook.proofs.Sorting.{before-more, behind-more}
 use Rattle.rulebook.proofs.index.NameIndex.search.Goals as goal
 

@@ -1,11 +1,11 @@
--- `rulebook::repeats::repeat_among`: the entries that are left repeat, after those that are done, what all of them repeat, and the index tells of
+-- `rulebook::repeats::enter_all`: the entries that are left repeat, after those that are done, what all of them repeat, and the index tells of
 -- those that are done.
 use Rattle.std.proofs.Common.{◌≡◌, [], ◌+◌, ◌-◌, ◌*◌, ◌≤◌}
 use Rattle.bookform.specs.Format.{lead_of}
 use Rattle.rulebook.specs.Book.{Laid, names_from, entries_from, place_after}
 use Rattle.rulebook.specs.Check.{repeat_from}
 use Rattle.rulebook.specs.Index.{Indexed}
-use Rattle.rulebook.proofs.repeats.repeat_among.Given as goal
+use Rattle.rulebook.proofs.repeats.enter_all.Given as goal
 
 abbrev pub invariant-loop-number : goal.invariant-loop-number
 invariant-loop-number l =
@@ -24,5 +24,6 @@ invariant-loop-number l =
       lower_bound : e.first ≤ l.at;
       upper_bound : l.at ≤ e.first + done * 257;
       indexed : Indexed lead e.first done bs l.index;
+      form : l.index.sorted ≡ l.initial.index.sorted;
       repeats : repeat_from (entries_from lead done e.first bs) (entries_from lead left l.at bs) ≡ repeat_from [] (entries_from lead e.count e.first bs);
     }
