@@ -35,19 +35,12 @@ impl NameIndex {
     }
 
     // The last of the entries that has a name: of those with its signature each leads to the one before.
-    pub fn last_named(
-        &self,
-        listed: Listed,
-        mark: usize,
-        name: &[u8],
-        ignore_case: bool,
-    ) -> Option<FoundEntry>
-        requires mark_bound { (mark < 256) × (mark ≡ signature_of name.now) }
+    fn last_named(&self, listed: Listed, name: &[u8], ignore_case: bool) -> Option<FoundEntry>
         requires few { listed.entries.count ≤ 255 }
         requires chained { Chained (lead_of listed.entries.kind) listed.entries.first listed.entries.count listed.book.now self.now }
         ensures { result ≡ last_named (comparing ignore_case) name.now (lead_of listed.entry.entries.kind) listed.entry.entries.first listed.entry.book.now listed.entry.entries.count }
     {
-        let mut slot = self.heads[mark];
+        let mut slot = self.heads[signature(name)];
         // by links
         while slot != 0 {
             let (entry, entry_name) = told(listed, slot);
@@ -67,7 +60,7 @@ impl NameIndex {
         if self.sorted {
             self.sorted_named(listed, name, ignore_case)
         } else {
-            self.last_named(listed, signature(name), name, ignore_case)
+            self.last_named(listed, name, ignore_case)
         }
     }
 }

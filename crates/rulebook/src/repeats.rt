@@ -1,20 +1,18 @@
 // Names that repeat earlier ones, found by the index that is made on the way.
 ghost use Rattle.std.specs.Prelude.{◌≡◌, ℕ, true, false, [], None, ◌<◌, ◌≤◌, get_or, MatchResult};
 ghost use Rattle.std.specs.Option.{MatchOption};
-ghost use Rattle.ascii.specs.Ascii.{fold};
 ghost use Rattle.bookform.specs.Format.{lead_of};
 ghost use Rattle.rulebook.specs.Book.{place_after, entries_in, header_of, book_of};
 ghost use Rattle.refusal.specs.Verdict.{refusal_at};
-ghost use Rattle.rulebook.specs.Check.{is_named, repeat_from, or_else, book_fault};
-ghost use Rattle.rulebook.specs.Signature.{signature as signature_of};
-ghost use Rattle.rulebook.specs.Index.{Chained, Indexed, Next, Enters, Fresh, Blank, Indexes};
+ghost use Rattle.rulebook.specs.Check.{repeat_from, or_else, book_fault};
+ghost use Rattle.rulebook.specs.Index.{Indexed, Next, Enters, Fresh, Blank, Indexes};
 
-use crate::index::{Index, NameIndex, signature};
-use crate::lookup::FormedBook;
+use crate::index::{Index, NameIndex, signature, told};
+use crate::lookup::{FormedBook, same};
 use crate::names::Listed;
 use refusal::{Reason, Refusal};
 
-// So many entries are few for one signature. Where more would have to be asked, the entries are put in order.
+// So many entries of one signature are asked. Where there are more, the entries are put in order.
 const LONG_CHAIN: usize = 8;
 
 // What came of entering a name into an index.
@@ -24,32 +22,7 @@ pub enum Entered {
     LongChain,
 }
 
-// Whether an earlier entry has a name, case ignored.
-fn is_repeat(earlier: Listed, index: &NameIndex, mark: usize, name: &[u8]) -> bool
-    requires mark_bound { (mark < 256) × (mark ≡ signature_of name.now) }
-    requires few { earlier.entries.count ≤ 255 }
-    requires chained { Chained (lead_of earlier.entries.kind) earlier.entries.first earlier.entries.count earlier.book.now index.now }
-    ensures { result ≡ is_named fold name.now (entries_in earlier.entry.entries earlier.entry.book.now) }
-{
-    // most names are the first with their signature
-    index.heads[mark] != 0 && index.last_named(earlier, mark, name, true).is_some()
-}
-
 impl NameIndex {
-    // Whether more entries have a signature than are few. No answer is a wrong one: it picks the form that is quick.
-    fn is_long(&self, mark: usize) -> bool
-        requires { mark < 256 }
-    {
-        let mut slot = self.heads[mark];
-        for _ in 0..LONG_CHAIN {
-            if slot == 0 {
-                return false;
-            }
-            slot = self.slots[((slot - 1) % 256) as usize];
-        }
-        slot != 0
-    }
-
     // On the chain of its signature.
     fn enter_chain(&mut self, earlier: Listed, name: &[u8], slot: u32) -> Entered
         requires chains { self.old.sorted ≡ false }
@@ -58,11 +31,18 @@ impl NameIndex {
         ensures { Enters (lead_of earlier.entry.entries.kind) earlier.entry.entries.first earlier.entry.entries.count earlier.entry.book.now name.now self.old self.new result }
     {
         let mark = signature(name);
-        if self.is_long(mark) {
-            return Entered::LongChain;
-        }
-        if is_repeat(earlier, self, mark, name) {
-            return Entered::Repeat;
+        let mut asked = 0;
+        let mut behind = self.heads[mark];
+        while behind != 0 {
+            if asked == LONG_CHAIN {
+                return Entered::LongChain;
+            }
+            let (entry, entry_name) = told(earlier, behind);
+            if same(entry_name, name, true) {
+                return Entered::Repeat;
+            }
+            behind = self.slots[entry.index];
+            asked += 1;
         }
         self.slots[earlier.entries.count] = self.heads[mark];
         self.heads[mark] = slot;
