@@ -3,9 +3,12 @@
 -- in the order of their names instead.
 -- It is made with the check of the book, and look-ups under the book go by it. A slot is 0 if there is no such entry.
 use Rattle.std.specs.Prelude.{ℕ, zero, suc, ◌+◌, ◌-◌, ◌*◌, ◌/◌, ◌%◌, ◌<◌, ◌≤◌, true, false, cond, List, [], ◌≡◌, get_or, eqb}
-use Rattle.std.specs.Prelude.{Option, Some, None}
+use Rattle.std.specs.Prelude.{Option, Some, None, Result, MatchResult}
 use Rattle.ascii.specs.Ascii.{fold}
 use Rattle.ascii.specs.Text.{part, same_by}
+use Rattle.refusal.specs.declared.Refusal.{Refusal}
+use Rattle.refusal.specs.declared.Reason.TheVariants.{WrongBook}
+use Rattle.refusal.specs.Verdict.{refusal_at}
 use Rattle.bookform.specs.declared.Entries.{Entries}
 use Rattle.bookform.specs.Format.{lead_of}
 use Rattle.rulebook.specs.declared.index.FoundEntry.{FoundEntry}
@@ -13,7 +16,7 @@ use Rattle.rulebook.specs.declared.index.NameIndex.{NameIndex}
 use Rattle.rulebook.specs.declared.index.Index.{Index}
 use Rattle.rulebook.specs.declared.repeats.Entered.{Entered}
 use Rattle.rulebook.specs.declared.repeats.Entered.TheVariants.{New, Repeat, LongChain}
-use Rattle.rulebook.specs.Book.{name_at, entries_from, place_after, entries_in, header_of}
+use Rattle.rulebook.specs.Book.{name_at, place_after, entries_in, header_of}
 use Rattle.rulebook.specs.Check.{is_named, repeat_from}
 use Rattle.rulebook.specs.Signature.{signature}
 use Rattle.rulebook.specs.Order.{rank}
@@ -73,11 +76,24 @@ pub record Indexed (lead first n : ℕ) (bs : List ℕ) (index : NameIndex) : Ty
   pub chains : index.sorted ≡ false → Chained lead first n bs index
   pub order : index.sorted ≡ true → Sorted lead first n bs index.slots
 
+abbrev pub IndexedIn : Entries → List ℕ → NameIndex → Type 0
+IndexedIn es bs index = Indexed (lead_of es.kind) es.first es.count bs index
+
+-- the same of the order alone
+abbrev pub SortedIn : Entries → List ℕ → NameIndex → Type 0
+SortedIn es bs index = Sorted (lead_of es.kind) es.first es.count bs index.slots
+
 -- where a name belongs in the order, which no entry has: those before the place come before it, the others behind it
 pub record Belongs (lead first n : ℕ) (bs slots name : List ℕ) (place : ℕ) : Type 0 where
   pub within : place ≤ n
   pub before : (i : ℕ) → i < place → rank (name_told lead first bs (get_or slots i 0)) < rank name
   pub behind : (i : ℕ) → place ≤ i → i < n → rank name < rank (name_told lead first bs (get_or slots i 0))
+
+-- what a search answers: the place of an entry that has the name, case ignored, or where it belongs
+abbrev pub Searched : Entries → List ℕ → NameIndex → List ℕ → Result ℕ ℕ → Type 0
+Searched es bs index name result = MatchResult result
+    (λ i. (i < es.count) × (same_by fold (name_told (lead_of es.kind) es.first bs (get_or index.slots i 0)) name ≡ true))
+    (Belongs (lead_of es.kind) es.first es.count bs index.slots name)
 
 -- slots with one more at a place, and those behind it one further
 pub record Inserted (old new : List ℕ) (n place slot : ℕ) : Type 0 where
@@ -85,18 +101,26 @@ pub record Inserted (old new : List ℕ) (n place slot : ℕ) : Type 0 where
   pub here : get_or new place 0 ≡ slot
   pub behind : (i : ℕ) → place ≤ i → i < n → get_or new (i + 1) 0 ≡ get_or old i 0
 
--- the entry behind the first n: its name and its slot
-pub record Next (lead first n : ℕ) (bs name : List ℕ) (slot : ℕ) : Type 0 where
-  pub few : n < 255
-  pub named : name ≡ name_of lead first bs n
-  pub is : slot ≡ slot_of lead first bs n
+-- the entry behind others: its name and its slot
+pub record Next (es : Entries) (bs name : List ℕ) (slot : ℕ) : Type 0 where
+  pub few : es.count < 255
+  pub named : name ≡ name_of (lead_of es.kind) es.first bs es.count
+  pub is : slot ≡ slot_of (lead_of es.kind) es.first bs es.count
 
--- What came of entering it: the index tells of one entry more, unless the name repeats an earlier one. That a chain is long says no more than
--- that there are chains.
-abbrev pub Enters : ℕ → ℕ → ℕ → List ℕ → List ℕ → NameIndex → NameIndex → Entered → Type 0
-Enters lead first n bs name old new New = (is_named fold name (entries_from lead n first bs) ≡ false) × Indexed lead first (n + 1) bs new × (new.sorted ≡ old.sorted)
-Enters lead first n bs name old new Repeat = is_named fold name (entries_from lead n first bs) ≡ true
-Enters lead first n bs name old new LongChain = old.sorted ≡ false
+-- What came of entering it: the index tells of one entry more, or its name repeats an earlier one. That a chain is long says no more than that
+-- there are chains.
+abbrev pub Enters : Entries → List ℕ → List ℕ → NameIndex → NameIndex → Entered → Type 0
+Enters es bs name old new New =
+    (is_named fold name (entries_in es bs) ≡ false) × Indexed (lead_of es.kind) es.first (es.count + 1) bs new × (new.sorted ≡ old.sorted)
+Enters es bs name old new Repeat = is_named fold name (entries_in es bs) ≡ true
+Enters es bs name old new LongChain = old.sorted ≡ false
+
+-- What came of entering all entries of a kind: none repeats an earlier name, the index tells of each, and there they end; or one does, and is refused.
+abbrev pub AllEntered : Entries → List ℕ → NameIndex → ℕ → Type 0
+AllEntered es bs index end = (repeat_from [] (entries_in es bs) ≡ None) × IndexedIn es bs index × (end ≡ place_after (lead_of es.kind) es.count es.first bs)
+
+abbrev pub Refused : Entries → List ℕ → Refusal → Type 0
+Refused es bs r = (r ≡ refusal_at WrongBook r.place) × (repeat_from [] (entries_in es bs) ≡ Some r.place)
 
 -- an index with no entry yet
 abbrev pub Blank : NameIndex → Type 0
@@ -107,7 +131,7 @@ Fresh index = Blank index.directives × Blank index.clauses
 
 -- What a look-up among entries needs: the index tells of all of them, and no two of them have one name.
 pub record Looked (es : Entries) (bs : List ℕ) (index : NameIndex) : Type 0 where
-  pub told : Indexed (lead_of es.kind) es.first es.count bs index
+  pub told : IndexedIn es bs index
   pub single : repeat_from [] (entries_in es bs) ≡ None
 
 -- An index of a book tells of the entries of both kinds.

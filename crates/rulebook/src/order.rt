@@ -1,10 +1,9 @@
 // The order of names, and an index in it.
-ghost use Rattle.std.specs.Prelude.{◌≡◌, true, ◌<◌, ◌≤◌, get_or, MatchResult};
-ghost use Rattle.ascii.specs.Ascii.{fold};
-ghost use Rattle.ascii.specs.Text.{same_by, comparing};
+ghost use Rattle.std.specs.Prelude.{◌≡◌, ◌<◌, ◌≤◌};
+ghost use Rattle.ascii.specs.Text.{comparing};
 ghost use Rattle.bookform.specs.Format.{lead_of};
 ghost use Rattle.rulebook.specs.Order.{Compared};
-ghost use Rattle.rulebook.specs.Index.{last_named, name_told, Sorted, Belongs, Inserted};
+ghost use Rattle.rulebook.specs.Index.{last_named, SortedIn, Searched, Inserted};
 
 use crate::index::{FoundEntry, NameIndex, told};
 use crate::lookup::same;
@@ -35,12 +34,9 @@ pub fn compare(a: &[u8], b: &[u8]) -> Ordering
 impl NameIndex {
     // The place of an entry that has a name, case ignored, or else where in the order the name belongs.
     pub fn search(&self, listed: Listed, name: &[u8]) -> Result<usize, usize>
-        requires bound { listed.entries.count ≤ 255 }
-        requires sorted { Sorted (lead_of listed.entries.kind) listed.entries.first listed.entries.count listed.book.now self.now.slots }
-        ensures { MatchResult result
-            (λ place. (place < listed.entry.entries.count)
-            × (same_by fold (name_told (lead_of listed.entry.entries.kind) listed.entry.entries.first listed.entry.book.now (get_or self.now.slots place 0)) name.now ≡ true))
-            (Belongs (lead_of listed.entry.entries.kind) listed.entry.entries.first listed.entry.entries.count listed.entry.book.now self.now.slots name.now) }
+        requires few { listed.entries.count ≤ 255 }
+        requires sorted { SortedIn listed.entries listed.book.now self.now }
+        ensures { Searched listed.entry.entries listed.entry.book.now self.now name.now result }
     {
         let mut low = 0;
         let mut high = listed.entries.count;
@@ -57,14 +53,9 @@ impl NameIndex {
     }
 
     // The entry that has a name, in the order: the only one that may.
-    pub fn sorted_named(
-        &self,
-        listed: Listed,
-        name: &[u8],
-        ignore_case: bool,
-    ) -> Option<FoundEntry>
-        requires bound { listed.entries.count ≤ 255 }
-        requires sorted { Sorted (lead_of listed.entries.kind) listed.entries.first listed.entries.count listed.book.now self.now.slots }
+    pub fn sorted_named(&self, listed: Listed, name: &[u8], ignore_case: bool) -> Option<FoundEntry>
+        requires few { listed.entries.count ≤ 255 }
+        requires sorted { SortedIn listed.entries listed.book.now self.now }
         ensures { result ≡ last_named (comparing ignore_case) name.now (lead_of listed.entry.entries.kind) listed.entry.entries.first listed.entry.book.now listed.entry.entries.count }
     {
         let Ok(place) = self.search(listed, name) else {

@@ -1,11 +1,11 @@
 // Names that repeat earlier ones, found by the index that is made on the way.
-ghost use Rattle.std.specs.Prelude.{◌≡◌, ℕ, true, false, [], None, ◌<◌, ◌≤◌, get_or, MatchResult};
+ghost use Rattle.std.specs.Prelude.{◌≡◌, ℕ, true, false, None, ◌<◌, ◌≤◌, get_or, MatchResult};
 ghost use Rattle.std.specs.Option.{MatchOption};
 ghost use Rattle.bookform.specs.Format.{lead_of};
-ghost use Rattle.rulebook.specs.Book.{place_after, entries_in, header_of, book_of};
+ghost use Rattle.rulebook.specs.Book.{header_of, book_of};
 ghost use Rattle.refusal.specs.Verdict.{refusal_at};
-ghost use Rattle.rulebook.specs.Check.{repeat_from, or_else, book_fault};
-ghost use Rattle.rulebook.specs.Index.{Indexed, Next, Enters, Fresh, Blank, Indexes};
+ghost use Rattle.rulebook.specs.Check.{book_fault};
+ghost use Rattle.rulebook.specs.Index.{Indexed, IndexedIn, Next, Enters, AllEntered, Refused, Fresh, Blank, Indexes};
 
 use crate::index::{Index, NameIndex, signature, told};
 use crate::lookup::{FormedBook, same};
@@ -26,9 +26,9 @@ impl NameIndex {
     // On the chain of its signature.
     fn enter_chain(&mut self, earlier: Listed, name: &[u8], slot: u32) -> Entered
         requires chains { self.old.sorted ≡ false }
-        requires next { Next (lead_of earlier.entries.kind) earlier.entries.first earlier.entries.count earlier.book.now name.now slot }
-        requires indexed { Indexed (lead_of earlier.entries.kind) earlier.entries.first earlier.entries.count earlier.book.now self.old }
-        ensures { Enters (lead_of earlier.entry.entries.kind) earlier.entry.entries.first earlier.entry.entries.count earlier.entry.book.now name.now self.old self.new result }
+        requires next { Next earlier.entries earlier.book.now name.now slot }
+        requires indexed { IndexedIn earlier.entries earlier.book.now self.old }
+        ensures { Enters earlier.entry.entries earlier.entry.book.now name.now self.old self.new result }
     {
         let mark = signature(name);
         let mut asked = 0;
@@ -49,12 +49,13 @@ impl NameIndex {
         Entered::New
     }
 
-    // In the order.
+    // In the order. Written into its caller it would take registers from the chains, which most books have.
+    #[inline(never)]
     fn enter_sorted(&mut self, earlier: Listed, name: &[u8], slot: u32) -> Entered
         requires sorted { self.old.sorted ≡ true }
-        requires next { Next (lead_of earlier.entries.kind) earlier.entries.first earlier.entries.count earlier.book.now name.now slot }
-        requires indexed { Indexed (lead_of earlier.entries.kind) earlier.entries.first earlier.entries.count earlier.book.now self.old }
-        ensures { Enters (lead_of earlier.entry.entries.kind) earlier.entry.entries.first earlier.entry.entries.count earlier.entry.book.now name.now self.old self.new result }
+        requires next { Next earlier.entries earlier.book.now name.now slot }
+        requires indexed { IndexedIn earlier.entries earlier.book.now self.old }
+        ensures { Enters earlier.entry.entries earlier.entry.book.now name.now self.old self.new result }
     {
         match self.search(earlier, name) {
             Ok(_) => Entered::Repeat,
@@ -67,9 +68,9 @@ impl NameIndex {
 
     // The entry behind the earlier ones, by its name and its slot, is entered in the index's form.
     fn enter(&mut self, earlier: Listed, name: &[u8], slot: u32) -> Entered
-        requires next { Next (lead_of earlier.entries.kind) earlier.entries.first earlier.entries.count earlier.book.now name.now slot }
-        requires indexed { Indexed (lead_of earlier.entries.kind) earlier.entries.first earlier.entries.count earlier.book.now self.old }
-        ensures { Enters (lead_of earlier.entry.entries.kind) earlier.entry.entries.first earlier.entry.entries.count earlier.entry.book.now name.now self.old self.new result }
+        requires next { Next earlier.entries earlier.book.now name.now slot }
+        requires indexed { IndexedIn earlier.entries earlier.book.now self.old }
+        ensures { Enters earlier.entry.entries earlier.entry.book.now name.now self.old self.new result }
     {
         if self.sorted {
             self.enter_sorted(earlier, name, slot)
@@ -86,11 +87,8 @@ fn enter_all(listed: Listed, index: &mut NameIndex) -> Result<Option<usize>, Ref
     requires bytes { (i : ℕ) → get_or listed.book.now i 0 < 256 }
     requires empty { Indexed (lead_of listed.entries.kind) listed.entries.first 0 listed.book.now index.old }
     ensures { MatchResult result
-        (λ done. MatchOption done (index.old.sorted ≡ false)
-        (λ end. (repeat_from [] (entries_in listed.entry.entries listed.entry.book.now) ≡ None)
-        × (Indexed (lead_of listed.entry.entries.kind) listed.entry.entries.first listed.entry.entries.count listed.entry.book.now index.new)
-        × (end ≡ place_after (lead_of listed.entry.entries.kind) listed.entry.entries.count listed.entry.entries.first listed.entry.book.now)))
-        (λ r. (r ≡ refusal_at Reason.WrongBook r.place) × (repeat_from [] (entries_in listed.entry.entries listed.entry.book.now) ≡ Some r.place)) }
+        (λ done. MatchOption done (index.old.sorted ≡ false) (AllEntered listed.entry.entries listed.entry.book.now index.new))
+        (Refused listed.entry.entries listed.entry.book.now) }
 {
     let entries = listed.entries;
     let lead = entries.kind.lead();
@@ -112,11 +110,7 @@ fn repeat_among(listed: Listed, index: &mut NameIndex) -> Result<usize, Refusal>
     requires few { listed.entries.count ≤ 255 }
     requires bytes { (i : ℕ) → get_or listed.book.now i 0 < 256 }
     requires blank { Blank index.old }
-    ensures { MatchResult result
-        (λ end. (repeat_from [] (entries_in listed.entry.entries listed.entry.book.now) ≡ None)
-        × (Indexed (lead_of listed.entry.entries.kind) listed.entry.entries.first listed.entry.entries.count listed.entry.book.now index.new)
-        × (end ≡ place_after (lead_of listed.entry.entries.kind) listed.entry.entries.count listed.entry.entries.first listed.entry.book.now))
-        (λ r. (r ≡ refusal_at Reason.WrongBook r.place) × (repeat_from [] (entries_in listed.entry.entries listed.entry.book.now) ≡ Some r.place)) }
+    ensures { MatchResult result (AllEntered listed.entry.entries listed.entry.book.now index.new) (Refused listed.entry.entries listed.entry.book.now) }
 {
     if let Some(end) = enter_all(listed, index)? {
         return Ok(end);
