@@ -49,8 +49,7 @@ impl NameIndex {
         Entered::New
     }
 
-    // In the order. Written into its caller it would take registers from the chains, which most books have.
-    #[inline(never)]
+    // In the order.
     fn enter_sorted(&mut self, earlier: Listed, name: &[u8], slot: u32) -> Entered
         requires sorted { self.old.sorted ≡ true }
         requires next { Next earlier.entries earlier.book.now name.now slot }
@@ -66,13 +65,15 @@ impl NameIndex {
         }
     }
 
-    // The entry behind the earlier ones, by its name and its slot, is entered in the index's form.
-    fn enter(&mut self, earlier: Listed, name: &[u8], slot: u32) -> Entered
+    // The entry behind the earlier ones, by its name and its slot, is entered in the index's form, which is known when this is compiled: so the loop over
+    // the names of an ordinary book has nothing of the order in it.
+    fn enter<const SORTED: bool>(&mut self, earlier: Listed, name: &[u8], slot: u32) -> Entered
+        requires form { self.old.sorted ≡ SORTED }
         requires next { Next earlier.entries earlier.book.now name.now slot }
         requires indexed { IndexedIn earlier.entries earlier.book.now self.old }
         ensures { Enters earlier.entry.entries earlier.entry.book.now name.now self.old self.new result }
     {
-        if self.sorted {
+        if SORTED {
             self.enter_sorted(earlier, name, slot)
         } else {
             self.enter_chain(earlier, name, slot)
@@ -82,9 +83,13 @@ impl NameIndex {
 
 // Refusal 4 at the first entry that repeats an earlier one's name, case ignored; else where the entries end, and the index is made in its form, or
 // nothing if a chain is long. The place is counted beside the names: an iterator of both would have each of its other callers take a pair apart.
-fn enter_all(listed: Listed, index: &mut NameIndex) -> Result<Option<usize>, Refusal>
+fn enter_all<const SORTED: bool>(
+    listed: Listed,
+    index: &mut NameIndex,
+) -> Result<Option<usize>, Refusal>
     requires few { listed.entries.count ≤ 255 }
     requires bytes { (i : ℕ) → get_or listed.book.now i 0 < 256 }
+    requires form { index.old.sorted ≡ SORTED }
     requires empty { Indexed (lead_of listed.entries.kind) listed.entries.first 0 listed.book.now index.old }
     ensures { MatchResult result
         (λ done. MatchOption done (index.old.sorted ≡ false) (AllEntered listed.entry.entries listed.entry.book.now index.new))
@@ -95,7 +100,7 @@ fn enter_all(listed: Listed, index: &mut NameIndex) -> Result<Option<usize>, Ref
     let mut at = entries.first;
     for (number, name) in listed.names().enumerate() {
         let slot = ((at - entries.first) * 256 + number + 1) as u32;
-        match index.enter(listed.first(number), name, slot) {
+        match index.enter::<SORTED>(listed.first(number), name, slot) {
             Entered::New => {}
             Entered::Repeat => return Err(Reason::WrongBook.at(at)),
             Entered::LongChain => return Ok(None),
@@ -112,11 +117,11 @@ fn repeat_among(listed: Listed, index: &mut NameIndex) -> Result<usize, Refusal>
     requires blank { Blank index.old }
     ensures { MatchResult result (AllEntered listed.entry.entries listed.entry.book.now index.new) (Refused listed.entry.entries listed.entry.book.now) }
 {
-    if let Some(end) = enter_all(listed, index)? {
+    if let Some(end) = enter_all::<false>(listed, index)? {
         return Ok(end);
     }
     index.sorted = true;
-    match enter_all(listed, index)? {
+    match enter_all::<true>(listed, index)? {
         Some(end) => Ok(end),
         // no chain is asked in the order
         None => unreachable!(),

@@ -9,7 +9,7 @@ use Rattle.rulebook.proofs.repeats.enter_all.Goals as goal
 
 pub loop-number-init : goal.loop-number-init
 unfolding place_after entries_from
-loop-number-init c =
+loop-number-init g c =
     let e = c.args.listed.entries in
     let bs = c.args.listed.book.now in
     let it = c.into_iter-number-iterator.result in
@@ -32,14 +32,14 @@ loop-number-init c =
     }
 
 pub first-requires : goal.first-requires
-first-requires c =
+first-requires g c =
     let i = c.loop-number.invariant in
     let s = c.in-Some.ensures.steps in
     let t = named-turn _ _ _ _ _ _ i.laid (sym i.names ∙ s.0) in
     omega (arith, t.more, s.1)
 
 pub enter-requires-clause-next : goal.enter-requires-clause-next
-enter-requires-clause-next c =
+enter-requires-clause-next g c =
     let e = c.args.listed.entries in
     let bs = c.args.listed.book.now in
     let i = c.loop-number.invariant in
@@ -52,7 +52,7 @@ enter-requires-clause-next c =
     })
 
 pub returns-in-Repeat : goal.returns-in-Repeat
-returns-in-Repeat c =
+returns-in-Repeat g c =
     let i = c.loop-number.invariant in
     let s = c.in-Some.ensures.steps in
     let t = named-turn _ _ _ _ _ _ i.laid (sym i.names ∙ s.0) in
@@ -60,13 +60,13 @@ returns-in-Repeat c =
     rw c.at.ensures (refl, sym i.repeats ∙ repeat-here _ _ _ _ _ _ t.more refl _ h)
 
 pub overflow_add-at-in-loop-number-2 : goal.overflow_add-at-in-loop-number-2
-overflow_add-at-in-loop-number-2 c =
+overflow_add-at-in-loop-number-2 g c =
     let i = c.loop-number.invariant in
     let t = named-turn _ _ _ _ _ _ i.laid (sym i.names ∙ c.in-Some.ensures.steps.0) in
     omega (arith, c.lead-lead.ensures, t.ends, t.inside)
 
 pub loop-number-preserved : goal.loop-number-preserved
-loop-number-preserved c =
+loop-number-preserved g c =
     let e = c.args.listed.entries in
     let bs = c.args.listed.book.now in
     let lead = lead_of e.kind in
@@ -94,10 +94,10 @@ loop-number-preserved c =
     }
 
 pub returns : goal.returns
-returns c =
+returns g c =
     let e = c.args.listed.entries in
     let l = c.loop-number in
     let i = l.invariant in
     let n : e.count - l.number-iterator.count ≡ 0 = names-end (lead_of e.kind) c.args.listed.book.now (e.count - l.number-iterator.count) l.at (sym i.names ∙ c.in-None.ensures.steps.0.0) in
     let d : l.number-iterator.count ≡ e.count = omega (arith, n) in
-    (sym (rw (repeat-none, n) at i.repeats), rw d at i.indexed, rw d at i.place)
+    (sym i.repeats ∙ repeat-none _ _ _ _ _ n, rw d at i.indexed, rw d at i.place)

@@ -8,15 +8,15 @@ use Rattle.rulebook.specs.Index.{Indexed}
 use Rattle.rulebook.proofs.repeats.enter_all.Given as goal
 
 abbrev pub invariant-loop-number : goal.invariant-loop-number
-invariant-loop-number l =
+invariant-loop-number g l =
     let e = l.listed.entries in
     let lead = lead_of e.kind in
     let bs = l.listed.book.now in
     let done = l.number-iterator.count in
     let left = e.count - done in
     record {
-      can_next : (goal.iterator-loop-number).can_next l.number-iterator;
-      is_finite : (goal.iterator-loop-number).is_finite l.number-iterator;
+      can_next : (goal.iterator-loop-number g).can_next l.number-iterator;
+      is_finite : (goal.iterator-loop-number g).is_finite l.number-iterator;
       within : done ≤ e.count;
       laid : Laid lead left l.at bs;
       names : l.number-iterator.iter ≡ names_from lead left l.at bs;
