@@ -94,14 +94,15 @@ module _ (lead : ℕ) (bs : List ℕ) where
     pub laid : Laid lead (n - 1) (name_at lead at bs).end bs
     pub ends : at + (lead + 1 + length name) ≡ (name_at lead at bs).end
 
-  pub named-turn : (n at : ℕ) (name : List ℕ) (rest : List (List ℕ)) → Laid lead n at bs → names_from lead n at bs ≡ name ∷ rest → Turn n at name rest
+  pub named-turn : (n at : ℕ) (names : List (List ℕ)) (name : List ℕ) (rest : List (List ℕ)) → Laid lead n at bs → names ≡ names_from lead n at bs → names ≡ name ∷ rest
+      → Turn n at name rest
   unfolding entries_from Laid
-  named-turn zero at name rest l h = cc
-  named-turn (suc n) at name rest l h =
+  named-turn zero at names name rest l h k = cc
+  named-turn (suc n) at names name rest l h k =
       let q : suc n - 1 ≡ n = omega arith in
       let e : part bs (name_at lead at bs) ≡ name = cc in
       let f : names_from lead n (name_at lead at bs).end bs ≡ rest = cc in
       record { more = omega arith; named = sym e; left = rw q (sym f); inside = l.1; laid = rw q l.2; ends = omega (arith, ap length e, name-long at l.1) }
 
-  pub names-end : (n at : ℕ) → names_from lead n at bs ≡ [] → n ≡ 0
-  names-end n at h = omega (arith, length-names n at, ap length h)
+  pub names-end : (n at : ℕ) (names : List (List ℕ)) → names ≡ names_from lead n at bs → names ≡ [] → n ≡ 0
+  names-end n at names h k = omega (arith, length-names n at, ap length h, ap length k)

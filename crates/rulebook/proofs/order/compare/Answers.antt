@@ -23,7 +23,7 @@ returns-then-not-same_byte c =
     let n : length a ≡ length b = omega arith in
     let e = eqb-false _ _ (sym c.same_byte.ensures ∙ c.if-not-same_byte.true) in
     by_ranked _ _ _ c.cmp.result
-    (ranked (fold (get_or a l.i 0)) (fold (get_or b l.i 0)) c.cmp.result (rw (c.fold.ensures, c.fold-then-not-same_byte.ensures) at c.cmp.ensures))
+    (ranked (fold (get_or a l.i 0)) (fold (get_or b l.i 0)) c.cmp.result (cc))
     (λ o p. rw o (agree-less a b l.i n (omega arith) l.invariant.agree (λ i. omega (arith, c.type_inv.a i)) p))
     (λ o p. absurd (e p))
     (λ o p. rw o (agree-less b a l.i (sym n) (omega arith) (flipped l.invariant.agree) (λ i. omega (arith, c.type_inv.b i)) p))

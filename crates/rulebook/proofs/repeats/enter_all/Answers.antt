@@ -35,7 +35,7 @@ pub first-requires : goal.first-requires
 first-requires g c =
     let i = c.loop-number.invariant in
     let s = c.in-Some.ensures.steps in
-    let t = named-turn _ _ _ _ _ _ i.laid (sym i.names ∙ s.0) in
+    let t = named-turn _ _ _ _ _ _ _ i.laid i.names s.0 in
     omega (arith, t.more, s.1)
 
 pub enter-requires-clause-next : goal.enter-requires-clause-next
@@ -44,7 +44,7 @@ enter-requires-clause-next g c =
     let bs = c.args.listed.book.now in
     let i = c.loop-number.invariant in
     let s = c.in-Some.ensures.steps in
-    let t = named-turn _ _ _ _ _ _ i.laid (sym i.names ∙ s.0) in
+    let t = named-turn _ _ _ _ _ _ _ i.laid i.names s.0 in
     rw (c.first.ensures.entries, c.first.ensures.book, s.1) (record {
       few = omega (arith, t.more, c.requires.few);
       named = t.named ∙ ap (λ (p : ℕ). part bs (name_at (lead_of e.kind) p bs)) i.place;
@@ -55,14 +55,14 @@ pub returns-in-Repeat : goal.returns-in-Repeat
 returns-in-Repeat g c =
     let i = c.loop-number.invariant in
     let s = c.in-Some.ensures.steps in
-    let t = named-turn _ _ _ _ _ _ i.laid (sym i.names ∙ s.0) in
+    let t = named-turn _ _ _ _ _ _ _ i.laid i.names s.0 in
     let h = rw (c.first.ensures.entries, c.first.ensures.book, t.named, s.1) at c.in-Repeat.ensures in
     rw c.at.ensures (refl, sym i.repeats ∙ repeat-here _ _ _ _ _ _ t.more refl _ h)
 
 pub overflow_add-at-in-loop-number-2 : goal.overflow_add-at-in-loop-number-2
 overflow_add-at-in-loop-number-2 g c =
     let i = c.loop-number.invariant in
-    let t = named-turn _ _ _ _ _ _ i.laid (sym i.names ∙ c.in-Some.ensures.steps.0) in
+    let t = named-turn _ _ _ _ _ _ _ i.laid i.names c.in-Some.ensures.steps.0 in
     omega (arith, c.lead-lead.ensures, t.ends, t.inside)
 
 pub loop-number-preserved : goal.loop-number-preserved
@@ -74,7 +74,7 @@ loop-number-preserved g c =
     let i = l.invariant in
     let d = l.number-iterator.count in
     let s = c.in-Some.ensures.steps in
-    let t = named-turn _ _ _ _ _ _ i.laid (sym i.names ∙ s.0) in
+    let t = named-turn _ _ _ _ _ _ _ i.laid i.names s.0 in
     let ends : l.at + (c.lead-lead.result + 1 + length c.in-Some.name.now) ≡ (name_at lead l.at bs).end = rw c.lead-lead.ensures t.ends in
     let k : length c.next.new.self.iter ≡ e.count - d - 1 = ap length t.left ∙ length-names lead bs (e.count - d - 1) (name_at lead l.at bs).end in
     let w : e.count - c.next.new.self.count ≡ e.count - d - 1 = omega (arith, s.2) in
@@ -98,6 +98,6 @@ returns g c =
     let e = c.args.listed.entries in
     let l = c.loop-number in
     let i = l.invariant in
-    let n : e.count - l.number-iterator.count ≡ 0 = names-end (lead_of e.kind) c.args.listed.book.now (e.count - l.number-iterator.count) l.at (sym i.names ∙ c.in-None.ensures.steps.0.0) in
+    let n : e.count - l.number-iterator.count ≡ 0 = names-end (lead_of e.kind) c.args.listed.book.now (e.count - l.number-iterator.count) l.at _ i.names c.in-None.ensures.steps.0.0 in
     let d : l.number-iterator.count ≡ e.count = omega (arith, n) in
     (sym i.repeats ∙ repeat-none _ _ _ _ _ n, rw d at i.indexed, rw d at i.place)
