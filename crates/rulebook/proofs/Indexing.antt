@@ -76,7 +76,7 @@ module _ (lead first : ℕ) (bs : List ℕ) where
             let r = ih h in
             record { m = r.m; below = omega (arith, r.below); is = r.is; signed = r.signed; rest = rw (apart k e) r.rest }
 
-    pub unreached : (k : ℕ) → last_slot lead first bs (signature name) k ≡ 0 → last_named (comparing ic) name lead first bs k ≡ None
+    unreached : (k : ℕ) → last_slot lead first bs (signature name) k ≡ 0 → last_named (comparing ic) name lead first bs k ≡ None
     unfolding last_slot last_named
     unreached zero h = refl
     unreached (suc k) h = go (eqb (signature (name_of lead first bs k)) (signature name)) refl (unreached k) h

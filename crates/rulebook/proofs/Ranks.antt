@@ -72,7 +72,7 @@ pub record Agree (a b : List ℕ) (i : ℕ) : Type 0 where
 pub flipped : {a b : List ℕ} {i : ℕ} → Agree a b i → Agree b a i
 flipped g = record { high = g.high; left = g.right; right = g.left }
 
-pub rank-next : (h i : ℕ) (name : List ℕ) → i < length name → rank_from h (drop i name) ≡ rank_from (h * 256 + fold (get_or name i 0)) (drop (i + 1) name)
+rank-next : (h i : ℕ) (name : List ℕ) → i < length name → rank_from h (drop i name) ≡ rank_from (h * 256 + fold (get_or name i 0)) (drop (i + 1) name)
 unfolding rank_from
 rank-next h i name l = rw (add-one, drop-cons name i 0)
 

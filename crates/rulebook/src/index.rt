@@ -1,5 +1,5 @@
 // The index of a book, and looking names up by it.
-ghost use Rattle.std.specs.Prelude.{◌≡◌, ◌<◌, ◌≤◌, false};
+ghost use Rattle.std.specs.Prelude.{◌≡◌, ◌<◌, ◌≤◌};
 ghost use Rattle.ascii.specs.Text.{comparing};
 ghost use Rattle.bookform.specs.Format.{lead_of};
 ghost use Rattle.rulebook.specs.Book.{entries_in};
@@ -11,14 +11,15 @@ use crate::lookup::{name_at, same};
 use crate::names::Listed;
 use ascii::class::fold;
 
-// The entries of one kind, in one of two forms. Mostly they are chains: for each signature the last entry that has it, and for each entry the
-// one before it with the same. Names may be chosen so that one chain has them all: then the entries stand in the order of their names. A slot is one word, 0 if
-// there is no entry, so that a link is followed by one load and the whole index is 4 KB: how far behind the first the entry stands, and its number.
+// The entries of one kind, in one of two forms. Mostly they are chains: for each signature the last entry that has it, and for each entry the one
+// before it with the same. Names may be chosen so that one chain has all of them: then the entries stand in the order of their names. A slot is one
+// word, 0 if there is no entry, so that a link is followed by one load and the whole index is 4 KB: how far behind the first the entry stands, and
+// its number.
 #[derive(Drop)]
 pub struct NameIndex {
-    // of each signature; no use is made of them in the order
+    // for each signature; not read in the order
     pub heads: [u32; 256],
-    // one for each entry: that of the one before it on its chain, or the entries in order
+    // for each entry that of the one before it on its chain, or the entries in order
     pub slots: [u32; 256],
     pub sorted: bool,
 }
@@ -66,15 +67,15 @@ impl NameIndex {
 }
 
 // The entry that a slot tells of, and its name.
-pub fn told<'a>(listed: Listed<'a>, slot: u32) -> (FoundEntry, &'a [u8])
+pub(crate) fn told<'a>(listed: Listed<'a>, slot: u32) -> (FoundEntry, &'a [u8])
     requires { Told (lead_of listed.entries.kind) listed.entries.first listed.entries.count listed.book.now slot }
     ensures entry { result.0 ≡ record { index = number_told slot; at = place_told listed.entry.entries.first slot } }
     ensures name { result.1.now ≡ name_told (lead_of listed.entry.entries.kind) listed.entry.entries.first listed.entry.book.now slot }
 {
-    let told = (slot - 1) as usize;
+    let packed = (slot - 1) as usize;
     let entry = FoundEntry {
-        index: told % 256,
-        at: listed.entries.first + told / 256,
+        index: packed % 256,
+        at: listed.entries.first + packed / 256,
     };
     let range = name_at(listed.book, listed.entries.kind.lead(), entry.at);
     (entry, &listed.book[range.start..range.end])

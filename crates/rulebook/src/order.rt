@@ -1,5 +1,5 @@
 // The order of names, and an index in it.
-ghost use Rattle.std.specs.Prelude.{◌≡◌, ◌<◌, ◌≤◌};
+ghost use Rattle.std.specs.Prelude.{◌≡◌, ◌<◌, ◌≤◌, length};
 ghost use Rattle.ascii.specs.Text.{comparing};
 ghost use Rattle.bookform.specs.Format.{lead_of};
 ghost use Rattle.rulebook.specs.Order.{Compared};
@@ -14,7 +14,7 @@ use std::cmp::Ordering;
 
 // Which of two names comes first, case ignored: the shorter one, or of two as long the one with the lesser byte where they first differ. So
 // most names are told apart by their lengths.
-pub fn compare(a: &[u8], b: &[u8]) -> Ordering
+fn compare(a: &[u8], b: &[u8]) -> Ordering
     ensures { Compared a.now b.now result }
 {
     if a.len() < b.len() {
@@ -33,8 +33,8 @@ pub fn compare(a: &[u8], b: &[u8]) -> Ordering
 
 impl NameIndex {
     // The place of an entry that has a name, case ignored, or else where in the order the name belongs.
-    pub fn search(&self, listed: Listed, name: &[u8]) -> Result<usize, usize>
-        requires few { listed.entries.count ≤ 255 }
+    pub(crate) fn search(&self, listed: Listed, name: &[u8]) -> Result<usize, usize>
+        requires room { listed.entries.count ≤ length self.now.slots }
         requires sorted { SortedIn listed.entries listed.book.now self.now }
         ensures { Searched listed.entry.entries listed.entry.book.now self.now name.now result }
     {
@@ -53,7 +53,12 @@ impl NameIndex {
     }
 
     // The entry that has a name, in the order: the only one that may.
-    pub fn sorted_named(&self, listed: Listed, name: &[u8], ignore_case: bool) -> Option<FoundEntry>
+    pub(crate) fn sorted_named(
+        &self,
+        listed: Listed,
+        name: &[u8],
+        ignore_case: bool,
+    ) -> Option<FoundEntry>
         requires few { listed.entries.count ≤ 255 }
         requires sorted { SortedIn listed.entries listed.book.now self.now }
         ensures { result ≡ last_named (comparing ignore_case) name.now (lead_of listed.entry.entries.kind) listed.entry.entries.first listed.entry.book.now listed.entry.entries.count }
@@ -70,8 +75,8 @@ impl NameIndex {
     }
 
     // Puts a slot at a place among so many, those behind it one further.
-    pub fn insert(&mut self, count: usize, place: usize, slot: u32)
-        requires in_bounds { (place ≤ count) × (count < 255) }
+    pub(crate) fn insert(&mut self, count: usize, place: usize, slot: u32)
+        requires in_bounds { (place ≤ count) × (count < length self.old.slots) }
         ensures unchanged { (self.new.heads ≡ self.old.heads) × (self.new.sorted ≡ self.old.sorted) }
         ensures inserted { Inserted self.old.slots self.new.slots count place slot }
     {

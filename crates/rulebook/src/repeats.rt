@@ -12,11 +12,12 @@ use crate::lookup::{FormedBook, same};
 use crate::names::Listed;
 use refusal::{Reason, Refusal};
 
-// So many entries of one signature are asked. Where there are more, the entries are put in order.
+// So many entries are asked whether they have a name with their signature. Where there are more, all are put in order: that is slower for names
+// as they come, but no choice of names makes it slow.
 const LONG_CHAIN: usize = 8;
 
-// What came of entering a name into an index.
-pub enum Entered {
+// What came of entering a name: it is there, an earlier entry has it, or too many would have to be asked.
+enum Entered {
     New,
     Repeat,
     LongChain,
