@@ -26,7 +26,7 @@ unfolding squeezed compact
 squeezed-compact [] = refl
 squeezed-compact (x ∷ xs) = rw (squeezed-compact xs)
 
-squeezed-whole : (xs : List ℕ) → squeezed false xs ≡ xs
+pub squeezed-whole : (xs : List ℕ) → squeezed false xs ≡ xs
 unfolding squeezed
 squeezed-whole [] = refl
 squeezed-whole (x ∷ xs) = rw (squeezed-whole xs)
@@ -68,7 +68,7 @@ headed h same done (x ∷ xs) c = (h && (eqb x 32 && same done c)) || headed h s
 abbrev pub plain : Bool → (ℕ → ℕ) → List ℕ → List ℕ → Bool
 plain k f a c = same_by f (squeezed k a) c
 
-headed-heads : (same other : List ℕ → List ℕ → Bool) (c d done name : List ℕ) → ((a : List ℕ) → same a c ≡ other a d)
+pub headed-heads : (same other : List ℕ → List ℕ → Bool) (c d done name : List ℕ) → ((a : List ℕ) → same a c ≡ other a d)
     → head_from same done name c ≡ headed true other done name d
 unfolding head_from headed
 headed-heads same other c d done [] e = e done
@@ -100,12 +100,12 @@ gather false z false s r = refl
 
 module _ (h k : Bool) (f : ℕ → ℕ) where
   -- the first byte of what has been read of the name: it does not count, it has a partner, or it has none
-  first-blank : (x : ℕ) (d name c : List ℕ) → (k && is_space x) ≡ true → headed h (plain k f) (x ∷ d) name c ≡ headed h (plain k f) d name c
+  pub first-blank : (x : ℕ) (d name c : List ℕ) → (k && is_space x) ≡ true → headed h (plain k f) (x ∷ d) name c ≡ headed h (plain k f) d name c
   unfolding headed squeezed
   first-blank x d [] c e = rw e
   first-blank x d (y ∷ ys) c e = rw (e, first-blank x (d ++ (y ∷ [])) ys c e)
 
-  first-solid : (x : ℕ) (d name : List ℕ) (y : ℕ) (c : List ℕ) → (k && is_space x) ≡ false
+  pub first-solid : (x : ℕ) (d name : List ℕ) (y : ℕ) (c : List ℕ) → (k && is_space x) ≡ false
       → headed h (plain k f) (x ∷ d) name (y ∷ c) ≡ (eqb (f x) (f y) && headed h (plain k f) d name c)
   unfolding headed squeezed same_by
   first-solid x d [] y c e = rw e
@@ -113,7 +113,7 @@ module _ (h k : Bool) (f : ℕ → ℕ) where
       rw (e, first-solid x (d ++ (z ∷ [])) zs y c e)
       (gather h (eqb z 32) (eqb (f x) (f y)) (same_by f (squeezed k d) c) (headed h (plain k f) (d ++ (z ∷ [])) zs c))
 
-  first_alone : (x : ℕ) (d name : List ℕ) → (k && is_space x) ≡ false → headed h (plain k f) (x ∷ d) name [] ≡ false
+  pub first_alone : (x : ℕ) (d name : List ℕ) → (k && is_space x) ≡ false → headed h (plain k f) (x ∷ d) name [] ≡ false
   unfolding headed squeezed same_by
   first_alone x d [] e = rw e
   first_alone x d (z ∷ zs) e = rw (e, first_alone x (d ++ (z ∷ [])) zs e) (go h (eqb z 32))

@@ -8,3 +8,4 @@ pub mod Naming
 pub mod Placing
 pub mod Positions
 pub mod Searching
+pub mod Beginning

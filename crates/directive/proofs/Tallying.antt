@@ -1,6 +1,6 @@
 -- The names that a candidate agrees with, over the list of a book's names: the only one, by where the first stands and whether another follows it; and
 -- any of them. By induction over the names. Assumes nothing.
-use Rattle.std.proofs.Common.{ℕ, suc, ◌+◌, ◌≡◌, refl, Bool, true, false, cond, ◌&&◌, ◌||◌, List, [], ◌∷◌, ◌++◌, map, length, ap, ◌∙◌, arith}
+use Rattle.std.proofs.Common.{ℕ, suc, ◌+◌, ◌<◌, ◌≡◌, refl, Bool, true, false, cond, ◌&&◌, ◌||◌, List, [], ◌∷◌, ◌++◌, map, length, ap, sym, ◌∙◌, append_assoc, arith}
 use lib.ListN.{length-map}
 use Rattle.std.specs.Prelude.{Option, Some, None, is_some}
 use Rattle.std.specs.List.{list_any}
@@ -10,6 +10,7 @@ use Rattle.rulebook.specs.declared.Header.{Header}
 use Rattle.rulebook.specs.Book.{Entry, Book, header_of, book_of}
 use Rattle.rulebook.specs.Lookup.{comparison, entry_from}
 use Rattle.directive.specs.Name.{same_compact, entries_with, only, entry_of, head_from, is_head, may_grow}
+use Rattle.directive.specs.Steps.{Sought, Passed, Left}
 
 abbrev pub names_of : List Entry → List (List ℕ)
 names_of es = map (λ e. e.name) es
@@ -126,3 +127,72 @@ pub grow-by : (bs : List ℕ) (h : Header) → h ≡ header_of bs → (c : List 
     ≡ (list_any (λ n. head_from (same_by (comparing h.ignores_case)) [] n c) (names_of (book_of bs).directives)
     || (h.optional_blanks && list_any (λ n. head_from same_compact [] n c) (names_of (book_of bs).directives)))
 grow-by bs h e c = grow-any (book_of bs) c h.ignores_case h.optional_blanks (book-case bs h e) (book-blanks bs h e)
+
+-- names that are passed in order, as one by one they have not a property
+module _ (test : List ℕ → Bool) where
+  abbrev pub PassedTo : List (List ℕ) → List (List ℕ) → Type 0
+  PassedTo before after = (passed : List (List ℕ)) × (before ≡ passed ++ after) × (list_any test passed ≡ false)
+
+  any-append : (xs ys : List (List ℕ)) → list_any test (xs ++ ys) ≡ (list_any test xs || list_any test ys)
+  any-append [] ys = refl
+  any-append (x ∷ xs) ys = rw (any-append xs ys) (go (test x))
+    where
+      go : (b : Bool) → (b || (list_any test xs || list_any test ys)) ≡ ((b || list_any test xs) || list_any test ys)
+      go true = refl
+      go false = refl
+
+  pub pass-one : (before rest : List (List ℕ)) (n : List ℕ) → PassedTo before (n ∷ rest) → test n ≡ false → PassedTo before rest
+  pass-one before rest n (passed, e, h) t =
+      (passed ++ (n ∷ []), e ∙ sym (append_assoc passed (n ∷ []) rest), rw (any-append passed (n ∷ []), h, t))
+
+  -- the search is over at a name that has it, or where no name is left
+  pub sought-here : (before rest : List (List ℕ)) (n : List ℕ) → PassedTo before (n ∷ rest) → test n ≡ true → Sought test before (n ∷ rest) true
+  sought-here before rest n (passed, e, h) t = (passed, e, h, rw t)
+
+  pub sought-end : (before rest none : List (List ℕ)) (n : List ℕ) → PassedTo before (n ∷ rest) → test n ≡ false → rest ≡ [] → none ≡ [] → Sought test before (n ∷ none) false
+  sought-end before rest none n (passed, e, h) t r m = (passed, e ∙ ap (λ (l : List (List ℕ)). passed ++ (n ∷ l)) (r ∙ sym m), h, rw (t, m))
+
+  -- what all of them say is what those that are left say
+  pub passed-any : (before after : List (List ℕ)) → PassedTo before after → list_any test before ≡ list_any test after
+  passed-any before after (passed, e, h) = rw (e, any-append passed after, h)
+
+-- what was sought among those that are left is so of all names of the book
+module _ (b : Bool) (c : List ℕ) where
+  abbrev begun : List ℕ → Bool
+  begun n = head_from (same_by (comparing b)) [] n c
+
+  none-passed : (p q : List (List ℕ)) → 0 < length c → Passed b c p → list_any begun q ≡ false → Passed b c (p ++ q)
+  none-passed p q some = go c some
+    where
+      go : (d : List ℕ) → 0 < length d → Passed b d p → list_any (λ n. head_from (same_by (comparing b)) [] n d) q ≡ false → Passed b d (p ++ q)
+      go [] l g h = absurd (omega arith)
+      go (x ∷ xs) l g h = rw (any-append (λ n. head_from (same_by (comparing b)) [] n (x ∷ xs)) p q, g, h)
+
+  passed-none : (p : List (List ℕ)) → 0 < length c → Passed b c p → list_any begun p ≡ false
+  passed-none p some = go c some
+    where
+      go : (d : List ℕ) → 0 < length d → Passed b d p → list_any (λ n. head_from (same_by (comparing b)) [] n d) p ≡ false
+      go [] l g = absurd (omega arith)
+      go (x ∷ xs) l g = g
+
+  empty-none : 0 < length c → begun [] ≡ false
+  unfolding head_from same_by
+  empty-none some = go c some
+    where
+      go : (d : List ℕ) → 0 < length d → same_by (comparing b) [] d ≡ false
+      go [] l = absurd (omega arith)
+      go (x ∷ xs) l = refl
+
+module _ (book : Book) (c : List ℕ) (b : Bool) (case : book.ignores_case ≡ b) (some : 0 < length c) {before after : List (List ℕ)} {found : Bool} where
+  pub sought-left : Left book c before → Sought (λ n. head_from (same_by (comparing b)) [] n c) before after found → Left book c after
+  sought-left (p, e, g) (q, f, h, r) =
+      (p ++ q, e ∙ ap (λ (l : List (List ℕ)). p ++ l) f ∙ sym (append_assoc p q after), rw case (none-passed b c p q some (rw case at g) h))
+
+  pub sought-exact : Left book c before → Sought (λ n. head_from (same_by (comparing b)) [] n c) before after found
+      → found ≡ list_any (λ n. head_from (same_by (comparing b)) [] n c) (names_of book.directives)
+  sought-exact (p, e, g) (q, f, h, r) =
+      let parts : list_any (begun b c) (p ++ (q ++ after)) ≡ list_any (begun b c) after =
+      rw (any-append (begun b c) p (q ++ after), any-append (begun b c) q after, passed-none b c p some (rw case at g), h) in
+      let all : list_any (begun b c) ([] ∷ names_of book.directives) ≡ list_any (begun b c) after =
+      ap (list_any (begun b c)) (e ∙ ap (λ (l : List (List ℕ)). p ++ l) f) ∙ parts in
+      r ∙ sym (rw (empty-none b c some) at all)

@@ -1,5 +1,6 @@
 -- The steps of the search for a name: a candidate in a buffer, its comparison with a name, the entries that it agrees with, and what follows a word.
-use Rattle.std.specs.Prelude.{ℕ, ◌+◌, ◌≤◌, ◌<◌, Bool, true, false, cond, ◌&&◌, List, [], length, drop, get_or, leb}
+use Rattle.std.specs.Prelude.{ℕ, ◌+◌, ◌≤◌, ◌<◌, ◌≡◌, Bool, true, false, cond, ◌&&◌, List, [], ◌∷◌, ◌++◌, map, length, drop, get_or, leb}
+use Rattle.std.specs.List.{list_any}
 use Rattle.std.specs.Prelude.{Option, Some, None, Result, Ok, Err}
 use Rattle.ascii.specs.Ascii.{is_space}
 use Rattle.ascii.specs.Text.{leading, same_by, comparing}
@@ -33,6 +34,20 @@ agreed false compact ignore_case name candidate = same_in compact ignore_case na
 
 abbrev pub agrees_in : Comparison → List ℕ → List ℕ → Bool
 agrees_in how name candidate = agreed how.heads how.compact how.ignore_case name candidate
+
+-- of names in order, so many were passed that have not a property, and the answer is whether one that is left has it
+abbrev pub Sought : (List ℕ → Bool) → List (List ℕ) → List (List ℕ) → Bool → Type 0
+Sought test before after found =
+    (passed : List (List ℕ)) × (before ≡ passed ++ after) × (list_any test passed ≡ false) × (found ≡ list_any test after)
+
+-- names that a candidate is a beginning of none of; before the first word there are none
+abbrev pub Passed : Bool → List ℕ → List (List ℕ) → Type 0
+Passed ignore_case [] names = names ≡ []
+Passed ignore_case (x ∷ xs) names = list_any (λ n. head_from (same_by (comparing ignore_case)) [] n (x ∷ xs)) names ≡ false
+
+-- what is left of an empty name and those of a book, once names are passed
+abbrev pub Left : Book → List ℕ → List (List ℕ) → Type 0
+Left book c left = (passed : List (List ℕ)) × ([] ∷ map (λ e. e.name) book.directives ≡ passed ++ left) × Passed book.ignores_case c passed
 
 -- a candidate of at most 512 bytes
 abbrev pub fitting : List ℕ → Option (List ℕ)

@@ -4,18 +4,19 @@
 pub mod candidate;
 pub mod names;
 
-ghost use Rattle.std.specs.Prelude.{◌≡◌, [], ◌≤◌, length, drop, get_or};
+ghost use Rattle.std.specs.Prelude.{◌≡◌, [], ◌≤◌, ◌<◌, length, drop, get_or};
 ghost use Rattle.ascii.specs.Ascii.{is_word};
 ghost use Rattle.refusal.specs.Answer.{told};
 ghost use Rattle.rulebook.specs.Book.{book_of};
 ghost use Rattle.directive.specs.Name.{entry_of, name_from, name_at};
-ghost use Rattle.directive.specs.Steps.{next_of, Ahead, Ends, Placed};
+ghost use Rattle.directive.specs.Steps.{next_of, Ahead, Ends, Placed, Left};
 
 use ascii::class::is_word;
 use ascii::sets::Word;
 use ascii::{byte_at, run_end};
 use candidate::Candidate;
 use lexer::trivia::skip;
+use names::NamesLeft;
 use refusal::{Reason, Refusal};
 use rulebook::CheckedBook;
 
@@ -57,14 +58,18 @@ fn next_word(
     end: usize,
     candidate: &[u8],
     entry: Option<usize>,
+    names: &mut NamesLeft,
 ) -> Result<Option<usize>, Refusal>
     requires end_in_bounds { end ≤ length text.now }
+    requires not_empty { 0 < length candidate.now }
     requires value { entry ≡ entry_of (book_of book.now.bytes.now) candidate.now }
+    requires left { Left (book_of book.now.bytes.now) candidate.now names.old }
     ensures value_2 { result ≡ next_of (book_of book.now.bytes.now) text.now end candidate.now }
+    ensures left_2 { Left (book_of book.now.bytes.now) candidate.now names.new }
     ensures ahead { Ahead end (length text.now) result }
 {
     let place = skip(text, end, book.header.ignores_case)?;
-    if starts_word(text, place) && names::may_grow(book, candidate, entry) {
+    if starts_word(text, place) && names::may_grow(book, candidate, entry, names) {
         Ok(Some(place))
     } else {
         Ok(None)
@@ -79,6 +84,7 @@ fn search(book: &CheckedBook, text: &[u8], from: usize, start: usize) -> Result<
     ensures ends { Ends from start (length text.now) result }
 {
     let mut candidate = Candidate::new();
+    let mut names = NamesLeft::new(book);
     let mut found = None;
     let mut place = start;
     while starts_word(text, place) {
@@ -92,7 +98,14 @@ fn search(book: &CheckedBook, text: &[u8], from: usize, start: usize) -> Result<
         if let Some(entry) = entry {
             found = Some(Named { entry, end });
         }
-        match next_word(book, text, end, candidate.as_slice(), entry)? {
+        match next_word(
+            book,
+            text,
+            end,
+            candidate.as_slice(),
+            entry,
+            &mut names,
+        )? {
             Some(next) => {
                 place = next;
             }

@@ -1,15 +1,69 @@
 // Comparing a candidate with the names of a book.
-ghost use Rattle.std.specs.Prelude.{◌≡◌, ◌≤◌, length, map};
+ghost use Rattle.std.specs.Prelude.{◌≡◌, ◌≤◌, ◌<◌, [], ◌∷◌, List, ℕ, length, map};
 ghost use Rattle.std.specs.List.{list_any};
+ghost use Rattle.ascii.specs.Text.{same_by, comparing};
 ghost use Rattle.rulebook.specs.Book.{book_of};
-ghost use Rattle.directive.specs.Name.{entries_with, only, entry_of, may_grow};
-ghost use Rattle.directive.specs.Steps.{solid_from, agrees_in};
+ghost use Rattle.directive.specs.Name.{entries_with, only, entry_of, head_from, may_grow};
+ghost use Rattle.directive.specs.Steps.{solid_from, agrees_in, Sought, Left};
 
 use crate::Comparison;
 use ascii::class::is_space;
 use ascii::sets::Space;
 use ascii::{run_end, same_byte};
 use rulebook::CheckedBook;
+use rulebook::lookup::same;
+use rulebook::names::Names;
+use std::marker::Model;
+
+// Whether a candidate is a name, or the words of a name before one of its blanks. What stands behind these is asked first: most names have other bytes there.
+fn has_head(name: &[u8], candidate: &[u8], ignore_case: bool) -> bool
+    ensures { result ≡ head_from (same_by (comparing ignore_case)) [] name.now candidate.now }
+{
+    let len = candidate.len();
+    if name.len() < len || (name.len() != len && name[len] != b' ') {
+        return false;
+    }
+    same(&name[..len], candidate, ignore_case)
+}
+
+// The names that a candidate may still be a beginning of: one, and those behind it. Those before it are passed for good, as a name that does not begin with
+// some words does not begin with more words either.
+#[derive(Drop)]
+pub struct NamesLeft<'a> {
+    name: &'a [u8],
+    rest: Names<'a>,
+}
+
+impl<'a> Model for NamesLeft<'a> {
+    ghost Value = { List (List ℕ) };
+
+    ghost view = { λ s. s.name.now ∷ s.rest };
+}
+
+impl<'a> NamesLeft<'a> {
+    // All names of a book, behind an empty one.
+    pub fn new(book: &CheckedBook<'a>) -> NamesLeft<'a>
+        ensures { result ≡ [] ∷ map (λ e. e.name) (book_of book.now.bytes.now).directives }
+    {
+        NamesLeft {
+            name: b"",
+            rest: book.directive_names(),
+        }
+    }
+
+    // Whether a candidate is a beginning of one of them. The names before that one are passed.
+    fn any_begins(&mut self, candidate: &[u8], ignore_case: bool) -> bool
+        ensures { Sought (λ n. head_from (same_by (comparing ignore_case)) [] n candidate.now) self.old self.new result }
+    {
+        while !has_head(self.name, candidate, ignore_case) {
+            match self.rest.next() {
+                Some(name) => self.name = name,
+                None => return false,
+            }
+        }
+        true
+    }
+}
 
 // A place of a text, past the blanks there if they do not count.
 fn solid_from(text: &[u8], at: usize, compact: bool) -> usize
@@ -82,21 +136,28 @@ pub fn entry_of(book: &CheckedBook, candidate: &[u8]) -> Option<usize>
 }
 
 // Whether some name equals a candidate or begins with its words. One that has an entry is such a name, and no other is asked.
-pub fn may_grow(book: &CheckedBook, candidate: &[u8], entry: Option<usize>) -> bool
-    requires { entry ≡ entry_of (book_of book.now.bytes.now) candidate.now }
-    ensures { result ≡ may_grow (book_of book.now.bytes.now) candidate.now }
+pub fn may_grow(
+    book: &CheckedBook,
+    candidate: &[u8],
+    entry: Option<usize>,
+    names: &mut NamesLeft,
+) -> bool
+    requires not_empty { 0 < length candidate.now }
+    requires value { entry ≡ entry_of (book_of book.now.bytes.now) candidate.now }
+    requires left { Left (book_of book.now.bytes.now) candidate.now names.old }
+    ensures value_2 { result ≡ may_grow (book_of book.now.bytes.now) candidate.now }
+    ensures left_2 { Left (book_of book.now.bytes.now) candidate.now names.new }
 {
-    let exact = Comparison {
-        ignore_case: book.header.ignores_case,
-        compact: false,
-        heads: true,
-    };
+    if entry.is_some() {
+        return true;
+    }
+    if names.any_begins(candidate, book.header.ignores_case) {
+        return true;
+    }
     let compact = Comparison {
         ignore_case: true,
         compact: true,
         heads: true,
     };
-    entry.is_some()
-        || any_agrees(book, candidate, exact)
-        || (book.header.optional_blanks && any_agrees(book, candidate, compact))
+    book.header.optional_blanks && any_agrees(book, candidate, compact)
 }

@@ -20,13 +20,13 @@ pub returns-then-may_grow-clause-value_2 : goal.returns-then-may_grow-clause-val
 returns-then-may_grow-clause-value_2 c =
     let b = c.args.book.now in
     let n = next-is (book_of b.bytes.now) c.args.text.now c.args.end c.args.candidate.now (Ok c.in_ok-place.place) (rw (book-case b.bytes.now b.header b.header_read) (sym c.skip.ensures.value ∙ c.in_ok-place.was)) in
-    sym (n ∙ rw (← c.starts_word.ensures, c.if-starts_word.true, ← c.may_grow.ensures, c.if-may_grow.true))
+    sym (n ∙ rw (← c.starts_word.ensures, c.if-starts_word.true, ← c.may_grow.ensures.value_2, c.if-may_grow.true))
 
 pub returns-else-starts_word-clause-value_2 : goal.returns-else-starts_word-clause-value_2
 returns-else-starts_word-clause-value_2 c =
     let b = c.args.book.now in
     let n = next-is (book_of b.bytes.now) c.args.text.now c.args.end c.args.candidate.now (Ok c.in_ok-place.place) (rw (book-case b.bytes.now b.header b.header_read) (sym c.skip.ensures.value ∙ c.in_ok-place.was)) in
     elim c.else-starts_word.branch [
-      | else-starts_word-via-then-starts_word+else-may_grow w ↦ sym (n ∙ rw (← c.starts_word.ensures, w.if-starts_word.true, ← w.may_grow.ensures, w.if-may_grow.false))
+      | else-starts_word-via-then-starts_word+else-may_grow w ↦ sym (n ∙ rw (← c.starts_word.ensures, w.if-starts_word.true, ← w.may_grow.ensures.value_2, w.if-may_grow.false))
       | else-starts_word-via-else-starts_word w ↦ sym (n ∙ rw (← c.starts_word.ensures, w.if-starts_word.false))
     ]
