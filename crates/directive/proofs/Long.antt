@@ -1,20 +1,24 @@
--- A candidate of more than 512 bytes is no name of a book and begins none: a name has at most 255 bytes, its length being one byte, and a candidate
+-- A candidate of more than 128 bytes is no name of a book and begins none: a name has at most 64 bytes, as a valid book has the form, and a candidate
 -- has no more blanks than other bytes. So what is said of the candidate that a buffer keeps holds of every candidate. Assumes nothing.
-use mathlib.Core.Path.{◌≡◌, refl, sym, ◌∙◌}
+use mathlib.Core.Path.{◌≡◌, refl, sym, ap, ◌∙◌}
 use mathlib.Core.Bool.{Bool, true, false, cond, ◌&&◌, ◌||◌, true≢false}
 use Rattle.std.specs.Prelude.{None, Result, Ok, Err, is_err}
 use mathlib.Core.List.{List, [], ◌∷◌, ◌++◌}
-use Prim.Native.Nat.{ℕ, zero, suc, ◌+◌, ◌*◌, ◌<◌, ◌≤◌}
+use Prim.Native.Nat.{ℕ, zero, suc, ◌+◌, ◌-◌, ◌*◌, ◌<◌, ◌≤◌}
 use native.Mathlib.Omega.{arith}
-use lib.ListN.{length, take, get_or, length-append, length-take, length-drop}
+use lib.ListN.{length, take, drop, get_or, length-append, length-take}
+use lib.Seq.{drop-drop, get_or-drop, drop-append_seam}
 use lib.Dec.{eqb, leb}
 use borrow.Author.Tests.{le-leb, lt-leb, ne_eqb, leb-true, leb-false}
 use Rattle.ascii.specs.Ascii.{is_space, is_word, fold}
 use Rattle.ascii.specs.Text.{leading, same_by}
 use Rattle.ascii.proofs.Flags.{by_cases}
 use Rattle.ascii.proofs.Texts.{leading_le}
-use Rattle.bookform.specs.Format.{lead_of}
-use Rattle.rulebook.specs.Book.{Entry, Book, name_at, entries_from, header_of, book_of}
+use Rattle.bookform.specs.Grammar.{Entries, clauses, directive, IsBook}
+use Rattle.bookform.proofs.Grammars.{form-is-book}
+use Rattle.rulebook.specs.Check.{book_fault}
+use Rattle.rulebook.proofs.Forms.{valid-form}
+use Rattle.rulebook.specs.Book.{Entry, Book, entries_from, header_of, book_of}
 use Rattle.rulebook.specs.Lookup.{comparison, entry_from}
 use Rattle.rulebook.proofs.NameLaws.{same-lengths}
 use Rattle.directive.specs.Name.{compact, same_compact, entries_with, or_compact, entry_of, head_from, is_head, may_grow, extended}
@@ -22,17 +26,17 @@ use Rattle.directive.specs.declared.candidate.Full.{Full}
 use Rattle.directive.specs.Steps.{fitting, kept_if}
 
 -- a candidate that does not fit is too long, and one that does is what it should be
-pub fits-none : (c grown : List ℕ) (r : Result (Unit {0}) Full) → is_err r ≡ true → kept_if r c ≡ fitting grown → 512 < length grown
+pub fits-none : (c grown : List ℕ) (r : Result (Unit {0}) Full) → is_err r ≡ true → kept_if r c ≡ fitting grown → 128 < length grown
 fits-none c grown (Ok done) h k = absurd (cc)
 fits-none c grown (Err full) h k =
-    by_cases (leb (length grown) 512)
+    by_cases (leb (length grown) 128)
     (λ m. let f = rw m at k in cc f)
-    (λ m. leb-false (length grown) 512 m)
+    (λ m. leb-false (length grown) 128 m)
 
 pub fits-some : (c grown : List ℕ) (r : Result (Unit {0}) Full) → is_err r ≡ false → kept_if r c ≡ fitting grown → c ≡ grown
 fits-some c grown (Err full) h k = absurd (cc)
 fits-some c grown (Ok done) h k =
-    by_cases (leb (length grown) 512)
+    by_cases (leb (length grown) 128)
     (λ m. let f = rw m at k in cc f)
     (λ m. let f = rw m at k in cc f)
 
@@ -92,24 +96,35 @@ spaced-add (x ∷ xs) w s e h =
 pub spaced-grown : (c xs : List ℕ) → Spaced c → 0 < leading is_word xs → Spaced (extended c (take (leading is_word xs) xs))
 spaced-grown c xs s h = spaced-add c (take (leading is_word xs) xs) s (compact-word xs) (simp length-take (omega (arith, leading_le is_word xs)))
 
--- names of at most 255 bytes
+-- names of at most 64 bytes
 unfoldable pub Short : List Entry → Type 0
 Short [] = Unit {0}
-Short (e ∷ es) = (length e.name ≤ 255) × Short es
+Short (e ∷ es) = (length e.name ≤ 64) × Short es
 
-short-entries : (bs : List ℕ) → ((i : ℕ) → get_or bs i 0 < 256) → (lead n at : ℕ) → Short (entries_from lead n at bs)
+-- "a length byte 1 to 64", entry by entry
+short-entries : (bs : List ℕ) (d c at : ℕ) (xs : List ℕ) → drop at bs ≡ xs → Entries d c xs → Short (entries_from 0 d at bs)
 unfolding Short entries_from
-short-entries bs h lead zero at = tt
-short-entries bs h lead (suc n) at =
-    (simp (length-take, length-drop) (omega (arith, h (at + lead))), short-entries bs h lead n (name_at lead at bs).end)
+short-entries bs zero c at xs e (clauses c' xs' cs) = tt
+short-entries bs (suc d) c at xs e (directive d' c' name more w l es) =
+    let b : get_or bs (at + 0) 0 ≡ length name = sym (get_or-drop at bs 0 0) ∙ rw e in
+    let q : at + 0 + 1 + length name ≡ at + suc (length name) = omega arith in
+    let r : drop (at + 0 + 1 + length name) bs ≡ more = rw (q, ← drop-drop (suc (length name)) at bs, e) (drop-append_seam name more) in
+    let n : length (take (at + 0 + 1 + length name - (at + 0 + 1)) (drop (at + 0 + 1) bs)) ≤ 64 = simp length-take (omega (arith, l)) in
+    rw b (n, short-entries bs d c (at + 0 + 1 + length name) more r es)
 
-pub short-book : (bs : List ℕ) → ((i : ℕ) → get_or bs i 0 < 256) → Short (book_of bs).directives
-unfolding book_of
-short-book bs h = short-entries bs h (lead_of (header_of bs).directives.kind) (header_of bs).directives.count (header_of bs).directives.first
+short-form : (bs : List ℕ) → IsBook bs → Short (book_of bs).directives
+unfolding book_of header_of
+short-form bs b =
+    let d : get_or bs 7 0 ≡ b.d = ap (λ (l : List ℕ). get_or l 7 0) b.is in
+    let f : drop 9 bs ≡ b.entries = ap (λ (l : List ℕ). drop 9 l) b.is in
+    rw d (short-entries bs b.d b.c 9 b.entries f b.follow)
+
+pub short-book : (bs : List ℕ) → book_fault bs ≡ None → Short (book_of bs).directives
+short-book bs h = short-form bs ((form-is-book bs).0 (valid-form bs h))
 
 -- by a comparison that a name never passes
-module _ (same : List ℕ → List ℕ → Bool) (c : List ℕ) (far : (a : List ℕ) → length a ≤ 255 → same a c ≡ false) where
-  head-far : (done name : List ℕ) → length done + length name ≤ 255 → head_from same done name c ≡ false
+module _ (same : List ℕ → List ℕ → Bool) (c : List ℕ) (far : (a : List ℕ) → length a ≤ 64 → same a c ≡ false) where
+  head-far : (done name : List ℕ) → length done + length name ≤ 64 → head_from same done name c ≡ false
   unfolding head_from
   head-far done [] h = far done (omega arith)
   head-far done (x ∷ xs) h =
@@ -129,19 +144,19 @@ module _ (same : List ℕ → List ℕ → Bool) (c : List ℕ) (far : (a : List
   with-far i [] s = refl
   with-far i (e ∷ es) s = rw (far e.name s.0, with-far (suc i) es s.1)
 
-entry-far : (f : ℕ → ℕ) (c : List ℕ) → 255 < length c → (i : ℕ) (es : List Entry) → Short es → entry_from f i c es ≡ None
+pub entry-far : (f : ℕ → ℕ) (c : List ℕ) → 64 < length c → (i : ℕ) (es : List Entry) → Short es → entry_from f i c es ≡ None
 unfolding entry_from Short
 entry-far f c l i [] s = refl
 entry-far f c l i (e ∷ es) s = rw (same-lengths f e.name c (omega (arith, s.0)), entry-far f c l (suc i) es s.1)
 
 module _ (book : Book) (c : List ℕ) (short : Short book.directives) (s : Spaced c) where
-  exactly-far : 512 < length c → (a : List ℕ) → length a ≤ 255 → same_by (comparison book) a c ≡ false
+  exactly-far : 128 < length c → (a : List ℕ) → length a ≤ 64 → same_by (comparison book) a c ≡ false
   exactly-far l a h = same-lengths (comparison book) a c (omega arith)
 
-  compact-far : 512 < length c → (a : List ℕ) → length a ≤ 255 → same_compact a c ≡ false
+  compact-far : 128 < length c → (a : List ℕ) → length a ≤ 64 → same_compact a c ≡ false
   compact-far l a h = same-lengths fold (compact a) (compact c) (omega (arith, compact-le a))
 
-  pub entry-long : 512 < length c → entry_of book c ≡ None
+  pub entry-long : 128 < length c → entry_of book c ≡ None
   unfolding entry_of
   entry-long l =
       rw (entry-far (comparison book) c (omega arith) 0 book.directives short, with-far same_compact c (compact-far l) 0 book.directives short) (go book.optional_blanks)
@@ -150,7 +165,7 @@ module _ (book : Book) (c : List ℕ) (short : Short book.directives) (s : Space
       go true = refl
       go false = refl
 
-  pub grows-long : 512 < length c → may_grow book c ≡ false
+  pub grows-long : 128 < length c → may_grow book c ≡ false
   unfolding may_grow
   grows-long l =
       rw (is-head-far (same_by (comparison book)) c (exactly-far l) book.directives short, is-head-far same_compact c (compact-far l) book.directives short) (go book.optional_blanks)

@@ -49,9 +49,9 @@ Passed ignore_case (x ∷ xs) names = list_any (λ n. head_from (same_by (compar
 abbrev pub Left : Book → List ℕ → List (List ℕ) → Type 0
 Left book c left = (passed : List (List ℕ)) × ([] ∷ map (λ e. e.name) book.directives ≡ passed ++ left) × Passed book.ignores_case c passed
 
--- a candidate of at most 512 bytes
+-- a candidate of at most 128 bytes
 abbrev pub fitting : List ℕ → Option (List ℕ)
-fitting c = cond (leb (length c) 512) (Some c) None
+fitting c = cond (leb (length c) 128) (Some c) None
 
 -- the candidate that is kept, if it fits
 abbrev pub kept_if : Result (Unit {0}) Full → List ℕ → Option (List ℕ)

@@ -5,9 +5,9 @@ ghost use Rattle.directive.specs.Steps.{fitting, kept_if};
 
 use std::marker::Model;
 
-// The most bytes that a candidate has. A longer one is no name and begins none: a name's length is one byte, and at least every second byte of a candidate
-// is of a word.
-const ROOM: usize = 512;
+// The most bytes that a candidate has. A longer one is no name and begins none: a name has at most 64, and at least every second byte of a candidate is of a
+// word.
+pub const ROOM: usize = 128;
 
 // A word more would not fit.
 #[derive(Clone, Copy, Debug, PartialEq, Eq)]
@@ -25,7 +25,7 @@ impl Model for Candidate {
 
     ghost view = { λ c. take c.len c.bytes };
 
-    ghost invariant = { λ c. c.len ≤ 512 };
+    ghost invariant = { λ c. c.len ≤ 128 };
 }
 
 impl Candidate {
