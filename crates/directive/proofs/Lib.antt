@@ -6,6 +6,9 @@ pub mod Growing
 pub mod Long
 pub mod Naming
 pub mod Placing
-pub mod Positions
 pub mod Searching
 pub mod Beginning
+pub mod Marking
+pub mod Foreseeing
+pub mod Optional
+pub mod Counting

@@ -40,17 +40,20 @@ fits-some c grown (Ok done) h k =
     (λ m. let f = rw m at k in cc f)
     (λ m. let f = rw m at k in cc f)
 
--- a byte of a word is no blank
+-- a byte above the blanks, as one of a word
+pub past-blanks : (x : ℕ) → 32 < x → is_space x ≡ false
+past-blanks x l = simp (le-leb 9 x (omega arith), lt-leb x 13 (omega arith), ne_eqb x 32 (omega arith))
+
 word-solid : (x : ℕ) → is_word x ≡ true → is_space x ≡ false
 word-solid x h =
     by_cases (leb x 32)
     (λ e. let l = leb-true x 32 e in
     let n : is_word x ≡ false = simp (lt-leb 48 x (omega arith), lt-leb 65 x (omega arith), lt-leb 97 x (omega arith), ne_eqb x 95 (omega arith)) in
     absurd (true≢false (sym h ∙ n)))
-    (λ e. let l = leb-false x 32 e in simp (le-leb 9 x (omega arith), lt-leb x 13 (omega arith), ne_eqb x 32 (omega arith)))
+    (λ e. past-blanks x (leb-false x 32 e))
 
 -- blanks taken out
-compact-le : (xs : List ℕ) → length (compact xs) ≤ length xs
+pub compact-le : (xs : List ℕ) → length (compact xs) ≤ length xs
 unfolding compact
 compact-le [] = omega arith
 compact-le (x ∷ xs) = go (is_space x) (compact-le xs)
@@ -59,7 +62,7 @@ compact-le (x ∷ xs) = go (is_space x) (compact-le xs)
     go true h = omega arith
     go false h = omega arith
 
-compact-append : (xs ys : List ℕ) → compact (xs ++ ys) ≡ compact xs ++ compact ys
+pub compact-append : (xs ys : List ℕ) → compact (xs ++ ys) ≡ compact xs ++ compact ys
 unfolding compact
 compact-append [] ys = refl
 compact-append (x ∷ xs) ys = go (is_space x) (compact-append xs ys)
@@ -69,7 +72,7 @@ compact-append (x ∷ xs) ys = go (is_space x) (compact-append xs ys)
     go true h = h
     go false h = rw h
 
-compact-word : (xs : List ℕ) → compact (take (leading is_word xs) xs) ≡ take (leading is_word xs) xs
+pub compact-word : (xs : List ℕ) → compact (take (leading is_word xs) xs) ≡ take (leading is_word xs) xs
 unfolding compact leading
 compact-word [] = refl
 compact-word (x ∷ xs) = go (is_word x) refl (compact-word xs)
@@ -78,6 +81,10 @@ compact-word (x ∷ xs) = go (is_word x) refl (compact-word xs)
         → compact (take (cond b (suc (leading is_word xs)) 0) (x ∷ xs)) ≡ take (cond b (suc (leading is_word xs)) 0) (x ∷ xs)
     go true e h = rw (word-solid x e, h)
     go false e h = refl
+
+-- the word at a place of a text
+pub compact-word-at : (s : List ℕ) (i end : ℕ) → end ≡ i + leading is_word (drop i s) → compact (take (end - i) (drop i s)) ≡ take (end - i) (drop i s)
+compact-word-at s i end e = let q : end - i ≡ leading is_word (drop i s) = omega (arith, e) in rw q (compact-word (drop i s))
 
 -- no more blanks than other bytes
 abbrev pub Spaced : List ℕ → Type 0

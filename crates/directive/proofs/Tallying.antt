@@ -1,16 +1,17 @@
 -- The names that a candidate agrees with, over the list of a book's names: the only one, by where the first stands and whether another follows it; and
 -- any of them. By induction over the names. Assumes nothing.
-use Rattle.std.proofs.Common.{ℕ, suc, ◌+◌, ◌<◌, ◌≡◌, refl, Bool, true, false, cond, ◌&&◌, ◌||◌, List, [], ◌∷◌, ◌++◌, map, length, ap, sym, ◌∙◌, append_assoc, arith}
+use Rattle.std.proofs.Common.{ℕ, suc, ◌<◌, ◌≡◌, refl, Bool, true, false, cond, ◌&&◌, ◌||◌, List, [], ◌∷◌, ◌++◌, map, length, ap, sym, ◌∙◌, append_assoc, arith}
+use mathlib.Core.Bool.{or-false}
 use lib.ListN.{length-map}
 use Rattle.std.specs.Prelude.{Option, Some, None, is_some}
 use Rattle.std.specs.List.{list_any}
 use Rattle.ascii.specs.Text.{same_by, comparing}
-use Rattle.rulebook.proofs.Finding.{book-case, book-blanks}
-use Rattle.rulebook.specs.declared.Header.{Header}
-use Rattle.rulebook.specs.Book.{Entry, Book, header_of, book_of}
+use Rattle.rulebook.specs.Book.{Entry, Book}
 use Rattle.rulebook.specs.Lookup.{comparison, entry_from}
 use Rattle.directive.specs.Name.{same_compact, entries_with, only, entry_of, head_from, is_head, may_grow}
-use Rattle.directive.specs.Steps.{Sought, Passed, Left}
+use Rattle.directive.specs.declared.foreseen.Tally.{Tally}
+use Rattle.directive.specs.declared.foreseen.Tally.TheVariants.{Zero, Many}
+use Rattle.directive.specs.Steps.{Sought, Passed, Left, tally, one_more, only_one}
 
 abbrev pub names_of : List Entry → List (List ℕ)
 names_of es = map (λ e. e.name) es
@@ -20,65 +21,37 @@ length-names es = length-map es (λ e. e.name)
 
 module _ (p : List ℕ → Bool) where
   -- the places of the names with the property, counted from i
-  unfoldable places : ℕ → List (List ℕ) → List ℕ
+  unfoldable pub places : ℕ → List (List ℕ) → List ℕ
   places i [] = []
   places i (n ∷ ns) = cond (p n) (i ∷ places (suc i) ns) (places (suc i) ns)
 
-  entries-places : (i : ℕ) (es : List Entry) → entries_with p i es ≡ places i (names_of es)
+  pub entries-places : (i : ℕ) (es : List Entry) → entries_with p i es ≡ places i (names_of es)
   unfolding entries_with places
   entries-places i [] = refl
   entries-places i (e ∷ es) = rw (entries-places (suc i) es)
 
-  places-none : (i : ℕ) (ns : List (List ℕ)) → list_any p ns ≡ false → places i ns ≡ []
+  -- a name more is counted where it has the property
+  pub tally-place : (before : Tally) (i : ℕ) (n : List ℕ) (ns : List (List ℕ)) → tally before (places i (n ∷ ns)) ≡ tally (cond (p n) (one_more before i) before) (places (suc i) ns)
   unfolding places
-  places-none i [] e = refl
-  places-none i (n ∷ ns) e = go (p n) (places-none (suc i) ns) e
+  tally-place before i n ns = go (p n)
     where
-      go : (b : Bool) → (list_any p ns ≡ false → places (suc i) ns ≡ []) → (b || list_any p ns) ≡ false
-          → cond b (i ∷ places (suc i) ns) (places (suc i) ns) ≡ []
-      go true ih e = cc
-      go false ih e = ih e
+      go : (b : Bool) → tally before (cond b (i ∷ places (suc i) ns) (places (suc i) ns)) ≡ tally (cond b (one_more before i) before) (places (suc i) ns)
+      go true = refl
+      go false = refl
 
-  places-some : (k i : ℕ) (ns : List (List ℕ)) → list_any p ns ≡ true → only (k ∷ places i ns) ≡ None
+  pub tally-end : (before : Tally) (i : ℕ) → tally before (places i []) ≡ before
   unfolding places
-  places-some k i [] e = cc
-  places-some k i (n ∷ ns) e = go (p n) (places-some k (suc i) ns) e
-    where
-      go : (b : Bool) → (list_any p ns ≡ true → only (k ∷ places (suc i) ns) ≡ None) → (b || list_any p ns) ≡ true
-          → only (k ∷ cond b (i ∷ places (suc i) ns) (places (suc i) ns)) ≡ None
-      go true ih e = refl
-      go false ih e = ih e
+  tally-end before i = refl
 
-  only-after : (b : Bool) (k i : ℕ) (ns : List (List ℕ)) → list_any p ns ≡ b → only (k ∷ places i ns) ≡ cond b None (Some k)
-  only-after true k i ns e = places-some k i ns e
-  only-after false k i ns e = rw (places-none i ns e)
+-- the only one of those that are counted
+tally-many : (is : List ℕ) → tally Many is ≡ Many
+tally-many [] = refl
+tally-many (i ∷ is) = tally-many is
 
-  only-from : (i : ℕ) (before : List (List ℕ)) (n : List ℕ) (after : List (List ℕ)) → list_any p before ≡ false → p n ≡ true
-      → only (places i (before ++ (n ∷ after))) ≡ cond (list_any p after) None (Some (i + length before))
-  unfolding places
-  only-from i [] n after e h =
-      let z : i + 0 ≡ i = omega arith in
-      rw (h, z) (only-after (list_any p after) i (suc i) after refl)
-  only-from i (m ∷ ms) n after e h = go (p m) (λ z. only-from (suc i) ms n after z h) e
-    where
-      go : (b : Bool) → (list_any p ms ≡ false → only (places (suc i) (ms ++ (n ∷ after))) ≡ cond (list_any p after) None (Some (suc i + length ms)))
-          → (b || list_any p ms) ≡ false
-          → only (cond b (i ∷ places (suc i) (ms ++ (n ∷ after))) (places (suc i) (ms ++ (n ∷ after)))) ≡ cond (list_any p after) None (Some (i + suc (length ms)))
-      go true ih e = cc
-      go false ih e =
-          let z : suc i + length ms ≡ i + suc (length ms) = omega arith in
-          rw (← z) (ih e)
-
-  -- none has the property
-  pub only-none : (es : List Entry) → list_any p (names_of es) ≡ false → only (entries_with p 0 es) ≡ None
-  only-none es e = rw (entries-places 0 es, places-none 0 (names_of es) e)
-
-  -- the first that has it, and those after it
-  pub only-first : (es : List Entry) (before : List (List ℕ)) (n : List ℕ) (after : List (List ℕ)) → names_of es ≡ before ++ (n ∷ after)
-      → list_any p before ≡ false → p n ≡ true → only (entries_with p 0 es) ≡ cond (list_any p after) None (Some (length before))
-  only-first es before n after s e h =
-      let z : 0 + length before ≡ length before = omega arith in
-      rw (entries-places 0 es, s) (only-from 0 before n after e h ∙ ap (λ (k : ℕ). cond (list_any p after) None (Some k)) z)
+pub tally-only : (is : List ℕ) → only_one (tally Zero is) ≡ only is
+tally-only [] = refl
+tally-only (i ∷ []) = refl
+tally-only (i ∷ j ∷ is) = rw (tally-many is)
 
 -- any: a beginning of one of the names
 pub any_head : (same : List ℕ → List ℕ → Bool) (c : List ℕ) (es : List Entry) → is_head same c es ≡ list_any (λ n. head_from same [] n c) (names_of es)
@@ -113,7 +86,7 @@ module _ (book : Book) (c : List ℕ) (r : Option ℕ) (e : r ≡ entry_from (co
       go (Some i) h q = cc
       go None h q = rw (← q, b)
 
-grow-any : (book : Book) (c : List ℕ) (b o : Bool) → book.ignores_case ≡ b → book.optional_blanks ≡ o
+pub grow-any : (book : Book) (c : List ℕ) (b o : Bool) → book.ignores_case ≡ b → book.optional_blanks ≡ o
     → may_grow book c
     ≡ (list_any (λ n. head_from (same_by (comparing b)) [] n c) (names_of book.directives)
     || (o && list_any (λ n. head_from same_compact [] n c) (names_of book.directives)))
@@ -121,19 +94,17 @@ unfolding may_grow
 grow-any book c b o e f =
     rw (any_head (same_by (comparison book)) c book.directives, any_head same_compact c book.directives, e, f)
 
--- the same by what a header says of its book
-pub grow-by : (bs : List ℕ) (h : Header) → h ≡ header_of bs → (c : List ℕ)
-    → may_grow (book_of bs) c
-    ≡ (list_any (λ n. head_from (same_by (comparing h.ignores_case)) [] n c) (names_of (book_of bs).directives)
-    || (h.optional_blanks && list_any (λ n. head_from same_compact [] n c) (names_of (book_of bs).directives)))
-grow-by bs h e c = grow-any (book_of bs) c h.ignores_case h.optional_blanks (book-case bs h e) (book-blanks bs h e)
+-- the same where blanks are not optional
+pub grow-exact : (book : Book) (c : List ℕ) (b : Bool) → book.ignores_case ≡ b → book.optional_blanks ≡ false
+    → may_grow book c ≡ list_any (λ n. head_from (same_by (comparing b)) [] n c) (names_of book.directives)
+grow-exact book c b e f = grow-any book c b false e f ∙ or-false (list_any (λ n. head_from (same_by (comparing b)) [] n c) (names_of book.directives))
 
 -- names that are passed in order, as one by one they have not a property
 module _ (test : List ℕ → Bool) where
   abbrev pub PassedTo : List (List ℕ) → List (List ℕ) → Type 0
   PassedTo before after = (passed : List (List ℕ)) × (before ≡ passed ++ after) × (list_any test passed ≡ false)
 
-  any-append : (xs ys : List (List ℕ)) → list_any test (xs ++ ys) ≡ (list_any test xs || list_any test ys)
+  pub any-append : (xs ys : List (List ℕ)) → list_any test (xs ++ ys) ≡ (list_any test xs || list_any test ys)
   any-append [] ys = refl
   any-append (x ∷ xs) ys = rw (any-append xs ys) (go (test x))
     where

@@ -1,3 +1,4 @@
 pub mod Name
 pub mod Laws
 pub mod Steps
+pub mod Kept

@@ -1,39 +1,21 @@
--- The steps of the search for a name: a candidate in a buffer, its comparison with a name, the entries that it agrees with, and what follows a word.
-use Rattle.std.specs.Prelude.{ℕ, ◌+◌, ◌≤◌, ◌<◌, ◌≡◌, Bool, true, false, cond, ◌&&◌, List, [], ◌∷◌, ◌++◌, map, length, drop, get_or, leb}
+-- The steps of the search for a name: a candidate in a buffer, the names that are left, what was foreseen without blanks, and what follows a word.
+use Rattle.std.specs.Prelude.{ℕ, ◌≤◌, ◌<◌, ◌≡◌, Bool, false, cond, ◌&&◌, ◌||◌, List, [], ◌∷◌, ◌++◌, map, length, take, drop, get_or, eqb, leb}
 use Rattle.std.specs.List.{list_any}
 use Rattle.std.specs.Prelude.{Option, Some, None, Result, Ok, Err}
-use Rattle.ascii.specs.Ascii.{is_space}
-use Rattle.ascii.specs.Text.{leading, same_by, comparing}
+use Rattle.ascii.specs.Text.{same_by, comparing}
 use Rattle.refusal.specs.declared.Refusal.{Refusal}
 use Rattle.lexer.specs.Trivia.{skip}
 use Rattle.rulebook.specs.Book.{Book}
-use Rattle.directive.specs.declared.Comparison.{Comparison}
+use Rattle.directive.specs.declared.foreseen.Tally.{Tally}
+use Rattle.directive.specs.declared.foreseen.Tally.TheVariants.{Zero, One, Many}
 use Rattle.directive.specs.declared.candidate.Full.{Full}
 use Rattle.directive.specs.declared.DirectiveName.{DirectiveName}
 use Rattle.directive.specs.declared.Named.{Named}
-use Rattle.directive.specs.Name.{same_compact, head_from, may_grow, starts_word}
+use Rattle.directive.specs.Name.{compact, same_compact, entries_with, head_from, may_grow, starts_word}
 
 -- numbers that are bytes
 abbrev pub AreBytes : List ℕ → Type 0
 AreBytes bs = (i : ℕ) → get_or bs i 0 < 256
-
--- a text from a place on, past the blanks that a compact comparison does not see
-abbrev pub solid_from : Bool → List ℕ → ℕ → ℕ
-solid_from false xs at = at
-solid_from true xs at = at + leading is_space (drop at xs)
-
--- two names are equal: without their blanks, or with case ignored or not
-abbrev pub same_in : Bool → Bool → List ℕ → List ℕ → Bool
-same_in true ignore_case = same_compact
-same_in false ignore_case = same_by (comparing ignore_case)
-
--- a candidate equals a name, or one of its beginnings too
-abbrev pub agreed : Bool → Bool → Bool → List ℕ → List ℕ → Bool
-agreed true compact ignore_case name candidate = head_from (same_in compact ignore_case) [] name candidate
-agreed false compact ignore_case name candidate = same_in compact ignore_case name candidate
-
-abbrev pub agrees_in : Comparison → List ℕ → List ℕ → Bool
-agrees_in how name candidate = agreed how.heads how.compact how.ignore_case name candidate
 
 -- of names in order, so many were passed that have not a property, and the answer is whether one that is left has it
 abbrev pub Sought : (List ℕ → Bool) → List (List ℕ) → List (List ℕ) → Bool → Type 0
@@ -48,6 +30,45 @@ Passed ignore_case (x ∷ xs) names = list_any (λ n. head_from (same_by (compar
 -- what is left of an empty name and those of a book, once names are passed
 abbrev pub Left : Book → List ℕ → List (List ℕ) → Type 0
 Left book c left = (passed : List (List ℕ)) × ([] ∷ map (λ e. e.name) book.directives ≡ passed ++ left) × Passed book.ignores_case c passed
+
+-- one name more that ends at a place
+abbrev pub one_more : Tally → ℕ → Tally
+one_more Zero number = One number
+one_more (One first) number = Many
+one_more Many number = Many
+
+-- the entry, if just one ends there
+abbrev pub only_one : Tally → Option ℕ
+only_one Zero = None
+only_one (One number) = Some number
+only_one Many = None
+
+-- the entries that end at a place, one after another
+abbrev pub tally : Tally → List ℕ → Tally
+tally before [] = before
+tally before (i ∷ is) = tally (one_more before i) is
+
+-- words without blanks were put behind letters
+abbrev pub Extended : List ℕ → List ℕ → Type 0
+Extended old new = (more : List ℕ) × (new ≡ old ++ more) × (compact more ≡ more)
+
+-- of each candidate that has just the first n of some letters, but for blanks
+abbrev pub OfEach : List ℕ → (List ℕ → ℕ → Type 0) → Type 0
+OfEach letters P = (c : List ℕ) (n : ℕ) → n ≤ length letters → compact c ≡ take n letters → P c n
+
+-- the places are marked up to which a name has these letters and then a blank or its end
+abbrev pub Headed : List ℕ → List ℕ → List Bool → List Bool → Type 0
+Headed name letters old new = OfEach letters (λ c n. get_or new n false ≡ (get_or old n false || head_from same_compact [] name c))
+
+-- where a name ends that has these letters
+abbrev pub Ended : List ℕ → List ℕ → Option ℕ → Type 0
+Ended name letters None = OfEach letters (λ c n. same_compact name c ≡ false)
+Ended name letters (Some end) = (end ≤ length letters) × OfEach letters (λ c n. same_compact name c ≡ eqb n end)
+
+-- the names of a book are counted by these letters
+pub record Counted (book : Book) (letters : List ℕ) (heads : List Bool) (ends : List Tally) : Type 0 where
+  pub heads_of : OfEach letters (λ c n. get_or heads n false ≡ list_any (λ name. head_from same_compact [] name c) (map (λ e. e.name) book.directives))
+  pub ends_of : OfEach letters (λ c n. get_or ends n Zero ≡ tally Zero (entries_with (λ name. same_compact name c) 0 book.directives))
 
 -- a candidate of at most 128 bytes
 abbrev pub fitting : List ℕ → Option (List ℕ)

@@ -1,8 +1,9 @@
 // The candidate: the words of a name so far, with one blank between them.
-ghost use Rattle.std.specs.Prelude.{◌≡◌, List, [], ◌++◌, ◌≤◌, ℕ, length, take};
-ghost use Rattle.directive.specs.Name.{extended};
+ghost use Rattle.std.specs.Prelude.{◌≡◌, List, [], ◌++◌, ◌≤◌, ℕ, true, length, take, is_err};
+ghost use Rattle.directive.specs.Name.{compact, extended};
 ghost use Rattle.directive.specs.Steps.{fitting, kept_if};
 
+use ascii::class::is_space;
 use std::marker::Model;
 
 // The most bytes that a candidate has. A longer one is no name and begins none: a name has at most 64, and at least every second byte of a candidate is of a
@@ -39,14 +40,16 @@ impl Candidate {
     }
 
     pub fn as_slice(&self) -> &[u8]
-        ensures { result.now ≡ self.now }
+        ensures value { result.now ≡ self.now }
+        ensures fits { length self.now ≤ 128 }
     {
         &self.bytes[..self.len]
     }
 
     // Some bytes more, if they fit.
-    fn push(&mut self, more: &[u8]) -> Result<(), Full>
-        ensures { kept_if result self.new ≡ fitting (self.old ++ more.now) }
+    pub fn push(&mut self, more: &[u8]) -> Result<(), Full>
+        ensures kept { kept_if result self.new ≡ fitting (self.old ++ more.now) }
+        ensures unchanged { is_err result ≡ true → self.new ≡ self.old }
     {
         if more.len() > ROOM - self.len {
             return Err(Full);
@@ -65,5 +68,21 @@ impl Candidate {
             self.push(b" ")?;
         }
         self.push(word)
+    }
+
+    // The same without its blanks.
+    pub fn without_blanks(&self) -> Candidate
+        ensures { result ≡ compact self.now }
+    {
+        let mut bytes = [0; ROOM];
+        let mut len = 0;
+        for b in self.as_slice() {
+            if is_space(*b) {
+                continue;
+            }
+            bytes[len] = *b;
+            len += 1;
+        }
+        Candidate { bytes, len }
     }
 }

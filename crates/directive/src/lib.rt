@@ -2,21 +2,24 @@
 #![tactic(auto)]
 
 pub mod candidate;
+pub mod foreseen;
 pub mod names;
+pub mod outlook;
 
 ghost use Rattle.std.specs.Prelude.{◌≡◌, [], ◌≤◌, ◌<◌, length, drop, get_or};
 ghost use Rattle.ascii.specs.Ascii.{is_word};
 ghost use Rattle.refusal.specs.Answer.{told};
 ghost use Rattle.rulebook.specs.Book.{book_of};
 ghost use Rattle.directive.specs.Name.{entry_of, name_from, name_at};
-ghost use Rattle.directive.specs.Steps.{next_of, Ahead, Ends, Placed, Left};
+ghost use Rattle.directive.specs.Steps.{next_of, Ahead, Ends, Placed};
+ghost use Rattle.directive.specs.Kept.{Ready, Asked};
 
 use ascii::class::is_word;
 use ascii::sets::Word;
 use ascii::{byte_at, run_end};
 use candidate::Candidate;
 use lexer::trivia::skip;
-use names::NamesLeft;
+use outlook::Outlook;
 use refusal::{Reason, Refusal};
 use rulebook::CheckedBook;
 
@@ -26,16 +29,6 @@ pub struct DirectiveName {
     pub entry: usize,
     pub start: usize,
     pub end: usize,
-}
-
-// How a candidate is compared with a name.
-#[derive(Clone, Copy, Debug, PartialEq, Eq)]
-pub struct Comparison {
-    pub ignore_case: bool,
-    // blanks are left out, and case is ignored
-    pub compact: bool,
-    // the words of the name before one of its blanks serve too
-    pub heads: bool,
 }
 
 // A candidate that was a name: its entry and its end.
@@ -58,18 +51,19 @@ fn next_word(
     end: usize,
     candidate: &[u8],
     entry: Option<usize>,
-    names: &mut NamesLeft,
+    outlook: &mut Outlook,
 ) -> Result<Option<usize>, Refusal>
     requires end_in_bounds { end ≤ length text.now }
     requires not_empty { 0 < length candidate.now }
     requires value { entry ≡ entry_of (book_of book.now.bytes.now) candidate.now }
-    requires left { Left (book_of book.now.bytes.now) candidate.now names.old }
+    requires ready { Ready (book_of book.now.bytes.now) candidate.now outlook.old }
+    requires asked { Asked (book_of book.now.bytes.now) entry outlook.old }
     ensures value_2 { result ≡ next_of (book_of book.now.bytes.now) text.now end candidate.now }
-    ensures left_2 { Left (book_of book.now.bytes.now) candidate.now names.new }
+    ensures ready_2 { Ready (book_of book.now.bytes.now) candidate.now outlook.new }
     ensures ahead { Ahead end (length text.now) result }
 {
     let place = skip(text, end, book.header.ignores_case)?;
-    if starts_word(text, place) && names::may_grow(book, candidate, entry, names) {
+    if starts_word(text, place) && outlook.may_grow(book, candidate, entry) {
         Ok(Some(place))
     } else {
         Ok(None)
@@ -84,7 +78,7 @@ fn search(book: &CheckedBook, text: &[u8], from: usize, start: usize) -> Result<
     ensures ends { Ends from start (length text.now) result }
 {
     let mut candidate = Candidate::new();
-    let mut names = NamesLeft::new(book);
+    let mut outlook = Outlook::new(book);
     let mut found = None;
     let mut place = start;
     while starts_word(text, place) {
@@ -94,18 +88,12 @@ fn search(book: &CheckedBook, text: &[u8], from: usize, start: usize) -> Result<
             skip(text, end, book.header.ignores_case)?;
             break;
         }
-        let entry = names::entry_of(book, candidate.as_slice());
+        outlook.pass(&text[place..end]);
+        let entry = outlook.entry_of(book, text, end, &candidate);
         if let Some(entry) = entry {
             found = Some(Named { entry, end });
         }
-        match next_word(
-            book,
-            text,
-            end,
-            candidate.as_slice(),
-            entry,
-            &mut names,
-        )? {
+        match next_word(book, text, end, candidate.as_slice(), entry, &mut outlook)? {
             Some(next) => {
                 place = next;
             }

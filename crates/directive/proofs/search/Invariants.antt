@@ -3,8 +3,8 @@ use Rattle.std.proofs.Common.{◌-◌, length}
 use Rattle.directive.proofs.Searching.{Searched}
 use Rattle.directive.proofs.search.Given as goal
 
-abbrev pub invariant-loop-names : goal.invariant-loop-names
-invariant-loop-names l = Searched l.book.bytes.now l.text l.from l.start l.place l.candidate l.names l.found
+abbrev pub invariant-loop-outlook : goal.invariant-loop-outlook
+invariant-loop-outlook l = Searched l.book.bytes.now l.text l.from l.start l.place l.candidate l.outlook l.found
 
-abbrev pub decreases-loop-names : goal.decreases-loop-names
-decreases-loop-names l = length l.text - l.place
+abbrev pub decreases-loop-outlook : goal.decreases-loop-outlook
+decreases-loop-outlook l = length l.text - l.place

@@ -1,5 +1,5 @@
 -- `has_head` meets its contract: the byte behind the candidate, or the end of the name, and then the bytes before it.
-use Rattle.std.proofs.Common.{◌≡◌, ◌≤◌, ◌<◌, ℕ, List, [], length, get_or, take, Bool, true, false, ◌||◌, sym, ◌∙◌, arith}
+use Rattle.std.proofs.Common.{◌≡◌, ◌≤◌, ℕ, List, [], length, get_or, take, Bool, true, false, ◌||◌, sym, ◌∙◌, arith}
 use mathlib.Core.Bool.{or-true}
 use lib.Dec.{eqb}
 use lib.ListN.{get_or-eq_default}
@@ -27,9 +27,9 @@ returns-then-name-len c =
     elim c.then-name-len.branch [
       | then-name-len-via-then-name-len w ↦ apart c.args.ignore_case n s (λ e. omega arith) (rw (get_or-eq_default n 0 (let h : length n ≤ length s = omega arith in h)))
       | then-name-len-via-else-name-len+then-name-len-ne32 w ↦ elim w.if-name-len-2.branch [
-          | then-name-len-2 v ↦ apart c.args.ignore_case n s (λ e. v.if-name-len-2.true (sym e)) (not-true _ (sym v.value-is ∙ w.if-name-len-ne32.true))
-          | else-name-len-2 v ↦ let e = eq-eqb (length n) (length s) v.if-name-len-2.false in let t = rw e at v.value-is in absurd (cc (t, w.if-name-len-ne32.true))
-        ]
+        | then-name-len-2 v ↦ apart c.args.ignore_case n s (λ e. v.if-name-len-2.true (sym e)) (not-true _ (sym v.value-is ∙ w.if-name-len-ne32.true))
+        | else-name-len-2 v ↦ let e = eq-eqb (length n) (length s) v.if-name-len-2.false in let t = rw e at v.value-is in absurd (cc (t, w.if-name-len-ne32.true))
+      ]
     ]
 
 pub returns : goal.returns

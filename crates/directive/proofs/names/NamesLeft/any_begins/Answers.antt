@@ -1,5 +1,5 @@
 -- `any_begins` meets its contract: a name that the candidate does not begin is passed.
-use Rattle.std.proofs.Common.{◌≡◌, [], refl, sym, ap, ◌∙◌}
+use Rattle.std.proofs.Common.{[], refl, sym, ◌∙◌}
 use Rattle.ascii.specs.Text.{same_by, comparing}
 use Rattle.directive.specs.Name.{head_from}
 use Rattle.directive.proofs.Tallying.{pass-one, sought-here, sought-end}

@@ -1,0 +1,151 @@
+// The names of a book without their blanks, held once for a line against a candidate and all that may follow it.
+ghost use Rattle.std.specs.Prelude.{◌≡◌, ◌≤◌, false, length, get_or};
+ghost use Rattle.rulebook.specs.Book.{book_of};
+ghost use Rattle.directive.specs.Name.{compact};
+ghost use Rattle.directive.specs.Steps.{one_more, only_one, Extended, Headed, Ended};
+ghost use Rattle.directive.specs.Kept.{Foretells, Passes};
+
+use crate::candidate::Candidate;
+use ascii::class::is_space;
+use ascii::sets::Word;
+use ascii::{begins_at, run_end, same_byte};
+use lexer::trivia::skip;
+use rulebook::CheckedBook;
+
+// How many names end at a place: none, one, by the number of its entry, or more.
+#[derive(Clone, Copy)]
+pub enum Tally {
+    Zero,
+    One(u8),
+    Many,
+}
+
+impl Tally {
+    fn and(self, number: u8) -> Tally
+        ensures { result ≡ one_more self number }
+    {
+        match self {
+            Tally::Zero => Tally::One(number),
+            _ => Tally::Many,
+        }
+    }
+
+    fn only(self) -> Option<usize>
+        ensures { result ≡ only_one self }
+    {
+        match self {
+            Tally::One(number) => Some(usize::from(number)),
+            _ => None,
+        }
+    }
+}
+
+// The letters of a candidate and of the words behind it, as a text without blanks. Of each beginning of it, by the number of its bytes: whether some name has
+// the same letters, or has them before one of its blanks, and which names have just these.
+#[derive(Drop)]
+pub struct Foreseen {
+    pub letters: Candidate,
+    // the letters of the candidate itself
+    pub reached: usize,
+    pub heads: [bool; 129],
+    pub ends: [Tally; 129],
+}
+
+// Adds the words that follow in a text, as far as trivia and room allow.
+fn gather(text: &[u8], end: usize, ignores_case: bool, letters: &mut Candidate)
+    requires { end ≤ length text.now }
+    ensures { Extended letters.old letters.new }
+{
+    let mut at = end;
+    while let Ok(place) = skip(text, at, ignores_case) {
+        let next = run_end::<Word>(text, place);
+        if next == place || letters.push(&text[place..next]).is_err() {
+            break;
+        }
+        at = next;
+    }
+}
+
+// Marks the places where a name that has the letters up to there has a blank or ends, and tells where it ends.
+fn mark(name: &[u8], letters: &[u8], heads: &mut [bool; 129]) -> Option<usize>
+    requires fits { length letters.now ≤ 128 }
+    requires solid { compact letters.now ≡ letters.now }
+    ensures heads { Headed name.now letters.now heads.old heads.new }
+    ensures end { Ended name.now letters.now result }
+{
+    let mut place = 0;
+    for x in name {
+        // most bytes are just the same
+        if place < letters.len() && *x == letters[place] {
+            place += 1;
+            continue;
+        }
+        if is_space(*x) {
+            heads[place] = heads[place] | (*x == b' ');
+            continue;
+        }
+        if place == letters.len() || !same_byte(*x, letters[place], true) {
+            return None;
+        }
+        place += 1;
+    }
+    heads[place] = true;
+    Some(place)
+}
+
+impl Foreseen {
+    // Made for a candidate that ends at a place of a text.
+    pub fn of(book: &CheckedBook, text: &[u8], end: usize, candidate: &Candidate) -> Foreseen
+        requires { end ≤ length text.now }
+        ensures { Foretells (book_of book.now.bytes.now) candidate.now result }
+    {
+        let mut letters = candidate.without_blanks();
+        let reached = letters.as_slice().len();
+        gather(text, end, book.header.ignores_case, &mut letters);
+        let known = letters.as_slice();
+        let mut heads = [false; 129];
+        let mut ends = [Tally::Zero; 129];
+        let mut number = 0;
+        for name in book.directive_names() {
+            if let Some(place) = mark(name, known, &mut heads) {
+                ends[place] = ends[place].and(number);
+            }
+            number += 1;
+        }
+        Foreseen {
+            letters,
+            reached,
+            heads,
+            ends,
+        }
+    }
+
+    // Goes on by the next word of the candidate. If it is not one that was foreseen, this is of no use any more.
+    pub fn pass(&mut self, word: &[u8]) -> bool
+        requires within { self.old.reached ≤ length self.old.letters }
+        requires solid { compact word.now ≡ word.now }
+        ensures { Passes self.old self.new word.now result }
+    {
+        if !begins_at(self.letters.as_slice(), self.reached, word, false) {
+            return false;
+        }
+        self.reached += word.len();
+        true
+    }
+
+    // Whether some name is the candidate but for blanks, or has a blank behind it.
+    pub fn is_head(&self) -> bool
+        requires { self.now.reached ≤ 128 }
+        ensures { result ≡ get_or self.now.heads self.now.reached false }
+    {
+        self.heads[self.reached]
+    }
+
+    // The entry whose name is the candidate but for blanks, if there is just one.
+    pub fn entry(&self) -> Option<usize>
+        requires { self.now.reached ≤ 128 }
+        ensures { result ≡ only_one (get_or self.now.ends self.now.reached Tally.Zero) }
+    {
+        self.ends[self.reached].only()
+    }
+}
