@@ -12,3 +12,4 @@ pub mod Marking
 pub mod Foreseeing
 pub mod Optional
 pub mod Counting
+pub mod Eights

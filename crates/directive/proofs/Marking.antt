@@ -5,6 +5,7 @@ use mathlib.Core.Bool.{Bool, true, false, cond, ◌&&◌, ◌||◌, and-true, an
 use mathlib.Core.Logic.{inl, inr}
 use mathlib.Core.List.{List, [], ◌∷◌}
 use Prim.Native.Nat.{ℕ, zero, suc, ◌+◌, ◌-◌, ◌<◌, ◌≤◌}
+use native.Mathlib.Nat.{add-zero}
 use native.Mathlib.Numerals.{add-one}
 use native.Mathlib.Omega.{arith}
 use lib.ListN.{length, take, drop, get_or, set}
@@ -21,6 +22,7 @@ use Rattle.directive.specs.Steps.{Headed, Ended}
 use Rattle.directive.proofs.Agreeing.{squeezed-compact, headed-heads, headed-whole, plain}
 use Rattle.directive.proofs.Beginning.{follows, headed-follows}
 use Rattle.directive.proofs.Long.{compact-le}
+use Rattle.directive.proofs.Optional.{fold-space}
 
 -- a name against a candidate but for blanks
 pub head-letters : (name c : List ℕ) → head_from same_compact [] name c ≡ follows true true fold name (compact c)
@@ -204,3 +206,21 @@ module _ (name t : List ℕ) (old : List Bool) where
 
         pub none-end : Ended name t None
         none-end c n m q = sym (whole-same c n q) ∙ sym (here.ends n m) ∙ ahead-none t j n m false x xs s (f n m)
+
+-- what is left of a name, from its next byte
+pub next : (name : List ℕ) (i : ℕ) → i < length name → drop i name ≡ get_or name i 0 ∷ drop (i + 1) name
+next name i l = rw add-one (drop-cons name i 0 l)
+
+-- so many bytes that are the next letters
+module _ (name t : List ℕ) (old now : List Bool) (solid : compact t ≡ t) where
+  pub marked-many : (k i j : ℕ) → i + k ≤ length name → j + k ≤ length t → ((m : ℕ) → m < k → eqb (fold (get_or name (i + m) 0)) (fold (get_or t (j + m) 0)) ≡ true)
+      → Marked name t old now j (drop i name) → Marked name t old now (j + k) (drop (i + k) name)
+  marked-many zero i j l m f h = rw (add-zero, add-zero) h
+  marked-many (suc k) i j l m f h =
+      let g = marked-many k i j (omega arith) (omega arith) (λ n b. f n (omega arith)) h in
+      let p : j + k + 1 ≡ j + suc k = omega arith in
+      let q : i + k + 1 ≡ i + suc k = omega arith in
+      let e = f k (omega arith) in
+      let s : is_space (get_or name (i + k) 0) ≡ false = fold-space (get_or name (i + k) 0) (get_or t (j + k) 0) e ∙ solid-at t (j + k) solid in
+      rw (← p, ← q)
+      (marked-letter name t old now (j + k) (drop (i + k) name) g (get_or name (i + k) 0) (drop (i + k + 1) name) (next name (i + k) (omega arith)) s (omega arith) e)

@@ -22,7 +22,7 @@ fold-high x u =
     let l = leb-true 65 x (and_left (leb 65 x) (leb x 90) u) in
     (past-blanks x (omega arith), past-blanks (x + 32) (omega arith))
 
-fold-space : (x y : ℕ) → eqb (fold x) (fold y) ≡ true → is_space x ≡ is_space y
+pub fold-space : (x y : ℕ) → eqb (fold x) (fold y) ≡ true → is_space x ≡ is_space y
 fold-space x y e =
     by_cases (is_upper x)
     (λ u. by_cases (is_upper y)

@@ -1,5 +1,5 @@
 -- The steps of the search for a name: a candidate in a buffer, the names that are left, what was foreseen without blanks, and what follows a word.
-use Rattle.std.specs.Prelude.{ℕ, ◌≤◌, ◌<◌, ◌≡◌, Bool, false, cond, ◌&&◌, ◌||◌, List, [], ◌∷◌, ◌++◌, map, length, take, drop, get_or, eqb, leb}
+use Rattle.std.specs.Prelude.{ℕ, zero, suc, ◌+◌, ◌≤◌, ◌<◌, ◌≡◌, Bool, false, cond, ◌&&◌, ◌||◌, List, [], ◌∷◌, ◌++◌, map, length, take, drop, get_or, eqb, leb}
 use Rattle.std.specs.List.{list_any}
 use Rattle.std.specs.Prelude.{Option, Some, None, Result, Ok, Err}
 use Rattle.ascii.specs.Text.{same_by, comparing}
@@ -16,6 +16,11 @@ use Rattle.directive.specs.Name.{compact, same_compact, entries_with, head_from,
 -- numbers that are bytes
 abbrev pub AreBytes : List ℕ → Type 0
 AreBytes bs = (i : ℕ) → get_or bs i 0 < 256
+
+-- the bytes of two texts, from a place of each on and up to so many behind it, are equal once each is passed through f
+abbrev pub alike_to : (ℕ → ℕ) → List ℕ → ℕ → List ℕ → ℕ → ℕ → Bool
+alike_to f a i b j zero = eqb (f (get_or a i 0)) (f (get_or b j 0))
+alike_to f a i b j (suc n) = alike_to f a i b j n && eqb (f (get_or a (i + suc n) 0)) (f (get_or b (j + suc n) 0))
 
 -- of names in order, so many were passed that have not a property, and the answer is whether one that is left has it
 abbrev pub Sought : (List ℕ → Bool) → List (List ℕ) → List (List ℕ) → Bool → Type 0

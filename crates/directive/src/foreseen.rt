@@ -1,10 +1,12 @@
 // The names of a book without their blanks, held once for a line against a candidate and all that may follow it.
-ghost use Rattle.std.specs.Prelude.{◌≡◌, ◌≤◌, false, length, get_or};
+ghost use Rattle.std.specs.Prelude.{◌≡◌, ◌+◌, ◌≤◌, true, false, length, get_or};
+ghost use Rattle.ascii.specs.Ascii.{fold};
 ghost use Rattle.rulebook.specs.Book.{book_of};
 ghost use Rattle.directive.specs.Name.{compact};
-ghost use Rattle.directive.specs.Steps.{one_more, only_one, Extended, Headed, Ended};
+ghost use Rattle.directive.specs.Steps.{alike_to, one_more, only_one, Extended, Headed, Ended};
 ghost use Rattle.directive.specs.Kept.{Foretells, Passes};
 
+use crate::alike::{eight_folded, eight_same};
 use crate::candidate::Candidate;
 use ascii::class::is_space;
 use ascii::sets::Word;
@@ -66,6 +68,17 @@ fn gather(text: &[u8], end: usize, ignores_case: bool, letters: &mut Candidate)
     }
 }
 
+// Whether the next eight bytes of a name are the next eight letters.
+fn next_eight(name: &[u8], at: usize, letters: &[u8], place: usize) -> bool
+    requires { (at ≤ length name.now) × (place ≤ length letters.now) }
+    ensures { result ≡ true → (at + 8 ≤ length name.now) × (place + 8 ≤ length letters.now) × (alike_to fold name.now at letters.now place 7 ≡ true) }
+{
+    if name.len() < at + 8 || letters.len() < place + 8 {
+        return false;
+    }
+    eight_same(name, at, letters, place) || eight_folded(name, at, letters, place)
+}
+
 // Marks the places where a name that has the letters up to there has a blank or ends, and tells where it ends.
 fn mark(name: &[u8], letters: &[u8], heads: &mut [bool; 129]) -> Option<usize>
     requires fits { length letters.now ≤ 128 }
@@ -74,17 +87,21 @@ fn mark(name: &[u8], letters: &[u8], heads: &mut [bool; 129]) -> Option<usize>
     ensures end { Ended name.now letters.now result }
 {
     let mut place = 0;
-    for x in name {
-        // most bytes are just the same
-        if place < letters.len() && *x == letters[place] {
-            place += 1;
+    let mut at = 0;
+    while at < name.len() {
+        // the first byte tells most names apart; behind it as many as can be at once
+        if at % 8 == 1 && next_eight(name, at, letters, place) {
+            at += 8;
+            place += 8;
             continue;
         }
-        if is_space(*x) {
-            heads[place] = heads[place] | (*x == b' ');
+        let x = name[at];
+        at += 1;
+        if is_space(x) {
+            heads[place] = heads[place] | (x == b' ');
             continue;
         }
-        if place == letters.len() || !same_byte(*x, letters[place], true) {
+        if place == letters.len() || !same_byte(x, letters[place], true) {
             return None;
         }
         place += 1;

@@ -1,6 +1,7 @@
 // The directive's name: the longest run of words that is a name of the book.
 #![tactic(auto)]
 
+pub mod alike;
 pub mod candidate;
 pub mod foreseen;
 pub mod names;

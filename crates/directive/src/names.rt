@@ -5,8 +5,8 @@ ghost use Rattle.rulebook.specs.Book.{book_of};
 ghost use Rattle.directive.specs.Name.{head_from};
 ghost use Rattle.directive.specs.Steps.{Sought};
 
+use crate::alike::alike;
 use rulebook::CheckedBook;
-use rulebook::lookup::same;
 use rulebook::names::Names;
 use std::marker::Model;
 
@@ -18,7 +18,7 @@ fn has_head(name: &[u8], candidate: &[u8], ignore_case: bool) -> bool
     if name.len() < len || (name.len() != len && name[len] != b' ') {
         return false;
     }
-    same(&name[..len], candidate, ignore_case)
+    alike(&name[..len], candidate, ignore_case)
 }
 
 // The names that a candidate may still be a beginning of: one, and those behind it. Those before it are passed for good, as a name that does not begin with

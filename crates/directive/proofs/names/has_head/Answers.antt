@@ -36,7 +36,7 @@ pub returns : goal.returns
 returns c =
     let n = c.args.name.now in
     let s = c.args.candidate.now in
-    c.same.ensures
+    c.alike.ensures
     ∙ joined c.args.ignore_case n s
     (elim c.if-name-len-2.branch [
       | then-name-len-2 v ↦ rw (not-false _ (sym v.value-is ∙ c.if-name-len-ne32.false)) (or-true (eqb (length s) (length n)))
