@@ -1,21 +1,29 @@
 // The names of a book that a candidate, as it stands, may still be a beginning of.
-ghost use Rattle.std.specs.Prelude.{◌≡◌, [], ◌∷◌, List, ℕ, map};
+ghost use Rattle.std.specs.Prelude.{◌≡◌, ◌||◌, [], ◌∷◌, List, ℕ, map, length, get_or, eqb};
 ghost use Rattle.ascii.specs.Text.{same_by, comparing};
 ghost use Rattle.rulebook.specs.Book.{book_of};
 ghost use Rattle.directive.specs.Name.{head_from};
 ghost use Rattle.directive.specs.Steps.{Sought};
 
 use crate::alike::alike;
+use ascii::byte_at;
 use rulebook::CheckedBook;
 use rulebook::names::Names;
 use std::marker::Model;
+
+// Whether a name ends at a place, or has a blank there.
+fn ends_at(name: &[u8], at: usize) -> bool
+    ensures { result ≡ (eqb at (length name.now) || eqb (get_or name.now at 0) 32) }
+{
+    at == name.len() || byte_at(name, at) == b' '
+}
 
 // Whether a candidate is a name, or the words of a name before one of its blanks. What stands behind these is asked first: most names have other bytes there.
 fn has_head(name: &[u8], candidate: &[u8], ignore_case: bool) -> bool
     ensures { result ≡ head_from (same_by (comparing ignore_case)) [] name.now candidate.now }
 {
     let len = candidate.len();
-    if name.len() < len || (name.len() != len && name[len] != b' ') {
+    if name.len() < len || !ends_at(name, len) {
         return false;
     }
     alike(&name[..len], candidate, ignore_case)

@@ -1,11 +1,8 @@
 -- `mark` meets its contract: each byte of the name is the next letter, or a blank, or has no partner.
-use Rattle.std.proofs.Common.{◌≡◌, ◌∷◌, ◌<◌, ◌≤◌, ◌+◌, ℕ, List, length, get_or, drop, false, sym, ◌∙◌, arith, refl}
+use Rattle.std.proofs.Common.{◌≡◌, ◌<◌, ◌≤◌, ◌+◌, ℕ, length, get_or, drop, false, sym, ◌∙◌, arith}
 use Rattle.ascii.specs.Ascii.{fold}
 use lib.Dec.{eqb}
-use lib.Seq.{drop-cons}
 use lib.ListN.{drop_of_length-le}
-use native.Mathlib.Numerals.{add-one}
-use borrow.Author.Tests.{eq-eqb}
 use Rattle.directive.proofs.Eights.{alike-each}
 use Rattle.directive.proofs.Marking.{next, marked-first, marked-many, marked-letter, marked-blank, marked-heads, marked-end, none-heads, none-end}
 use Rattle.directive.proofs.foreseen.mark.Goals as goal
