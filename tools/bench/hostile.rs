@@ -120,6 +120,26 @@ pub fn alike(count: usize, differ: Differ) -> Vec<String> {
         .collect()
 }
 
+/// So many names of 64 bytes, of which each eight have one signature and differ first: chains that are as long as they may get.
+fn by_eights(count: usize) -> Vec<String> {
+    let letter = |number: usize, place: usize| match place {
+        0..3 => {
+            if number >> place & 1 == 1 {
+                '0'
+            } else {
+                'p'
+            }
+        }
+        20 => (b'a' + (number / 8 % 16) as u8) as char,
+        41 => (b'a' + (number / 128) as u8) as char,
+        _ if (place * 7 + number) % 3 == 0 => 'q',
+        _ => 'Q',
+    };
+    (0..count)
+        .map(|number| (0..LONGEST_NAME).map(|place| letter(number, place)).collect())
+        .collect()
+}
+
 /// So many names of four letters with one signature, each above those before it: a check that goes along all of them for each has the fewest bytes to pay
 /// it with.
 fn rising(count: usize) -> Vec<String> {
@@ -479,6 +499,12 @@ fn looked_up() -> Vec<Row> {
             format!("#pragma omp{}", " p".repeat(32)),
         )
     });
+    rows.push(book_row(
+        "line free, q TABs q, blanks optional",
+        Call::Line { language: FORTRAN_FREE },
+        book(3, 2, &run_together(NAMES[2]), &["a".to_string()]),
+        of("!$omp q", "\t", "q"),
+    ));
     rows.push({
         let named = book(1, 2, &alike(NAMES[2], Differ::First), &["a".to_string()]);
         let name = alike(1, Differ::First)[0].to_lowercase();
@@ -507,6 +533,12 @@ fn books() -> Vec<Row> {
             String::new(),
         ));
     }
+    rows.push(names_row(
+        "book, chains of eight",
+        Call::Book,
+        |count| book(0, 2, &by_eights(count), &by_eights(count)),
+        String::new(),
+    ));
     rows.push(names_row(
         "book, one signature, four letters",
         Call::Book,
