@@ -14,7 +14,7 @@ use Rattle.ascii.specs.Ascii.{is_space, is_upper, fold}
 use Rattle.ascii.specs.Text.{same_by, comparing}
 use Rattle.ascii.proofs.Flags.{by_cases, and_left, and_right, or-none}
 use Rattle.directive.specs.Name.{head_from, extended}
-use Rattle.directive.specs.Steps.{Passed}
+use Rattle.directive.specs.Steps.{Unbegun}
 use Rattle.directive.proofs.Agreeing.{squeezed, squeezed-whole, headed, headed-heads, plain, first-blank, first-solid, first_alone}
 
 -- A name agrees with a candidate, or the words of the name before one of its blanks do if heads serve; blanks of the name are passed over if they do not count.
@@ -101,7 +101,7 @@ module _ (f : ℕ → ℕ) where
         rw (longer-none n c p.0, longer-passed c ns p.1)
 
 -- names that are passed stay passed as the candidate grows by a word
-pub passed-on : (b : Bool) (c w : List ℕ) (names : List (List ℕ)) → 0 < length w → Passed b c names → Passed b (extended c w) names
+pub passed-on : (b : Bool) (c w : List ℕ) (names : List (List ℕ)) → 0 < length w → Unbegun b c names → Unbegun b (extended c w) names
 passed-on b [] [] names h p = absurd (omega arith)
 passed-on b [] (y ∷ ys) names h p = rw p
 passed-on b (x ∷ xs) w names h p = longer-passed (comparing b) (comparing-blanks b) w (x ∷ xs) names p

@@ -17,7 +17,7 @@ use Rattle.rulebook.specs.Book.{Book}
 use Rattle.directive.specs.declared.foreseen.Tally.{Tally}
 use Rattle.directive.specs.declared.foreseen.Tally.TheVariants.{Zero}
 use Rattle.directive.specs.Name.{compact, same_compact, head_from}
-use Rattle.directive.specs.Steps.{OfEach, Headed, Ended, Counted, one_more, tally}
+use Rattle.directive.specs.Steps.{OfEach, HeadsMarked, EndTold, Counted, one_more, tally}
 use Rattle.directive.proofs.Tallying.{names_of, places, entries-places, tally-place, tally-end}
 
 -- so many names are counted, and the others are left
@@ -44,7 +44,7 @@ module _ (t : List ℕ) (all : List (List ℕ)) where
 
   module _ (name : List ℕ) (rest : List (List ℕ)) (number : ℕ) (heads : List Bool) (ends : List Tally) (so : Counting t all (name ∷ rest) number heads ends) where
     -- a name more
-    ends-at : (end : Option ℕ) → Ended name t end → length t < length ends → (c : List ℕ) (n : ℕ) → n ≤ length t → compact c ≡ take n t
+    ends-at : (end : Option ℕ) → EndTold name t end → length t < length ends → (c : List ℕ) (n : ℕ) → n ≤ length t → compact c ≡ take n t
         → get_or (counted_at ends number end) n Zero ≡ cond (same_compact name c) (one_more (get_or ends n Zero) number) (get_or ends n Zero)
     ends-at None d l c n m q = rw (d c n m q)
     ends-at (Some end) d l c n m q =
@@ -53,7 +53,7 @@ module _ (t : List ℕ) (all : List (List ℕ)) where
         (λ e. let z : n ≡ end = eqb-true n end e in rw (e, z, get_or-set_same ends end (one_more (get_or ends end Zero) number) Zero (omega (arith, d.0))))
         (λ e. rw (e, get_or-set_other ends end n (one_more (get_or ends end Zero) number) Zero (λ z. eqb-false n end e z))))
 
-    pub counting-name : (new : List Bool) (end : Option ℕ) → Headed name t heads new → Ended name t end → length t < length ends
+    pub counting-name : (new : List Bool) (end : Option ℕ) → HeadsMarked name t heads new → EndTold name t end → length t < length ends
         → Counting t all rest (number + 1) new (counted_at ends number end)
     counting-name new end h d l = record {
       heads_so = λ c n m q.

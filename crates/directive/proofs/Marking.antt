@@ -18,13 +18,13 @@ use Rattle.std.proofs.lemmas.Bool.{cases_order}
 use Rattle.ascii.specs.Ascii.{is_space, fold}
 use Rattle.ascii.proofs.Flags.{by_cases}
 use Rattle.directive.specs.Name.{compact, same_compact, head_from}
-use Rattle.directive.specs.Steps.{Headed, Ended}
+use Rattle.directive.specs.Steps.{HeadsMarked, EndTold}
 use Rattle.directive.proofs.Agreeing.{squeezed-compact, headed-heads, headed-whole, plain}
 use Rattle.directive.proofs.Beginning.{follows, headed-follows}
 use Rattle.directive.proofs.Long.{compact-le}
 use Rattle.directive.proofs.Optional.{fold-space}
 
--- a name against a candidate but for blanks
+-- a name against a candidate, but for blanks
 pub head-letters : (name c : List ℕ) → head_from same_compact [] name c ≡ follows true true fold name (compact c)
 head-letters name c =
     headed-heads same_compact (plain true fold) c (compact c) [] name (λ a. rw (squeezed-compact a)) ∙ headed-follows true true fold name (compact c)
@@ -52,43 +52,43 @@ no-blank x e = by_cases (eqb x 32) (λ q. let h : x ≡ 32 = eqb-true x 32 q in 
 
 -- the letters that are left at place j of a beginning of n of them
 module _ (t : List ℕ) where
-  abbrev pub Left : ℕ → ℕ → List ℕ
-  Left j n = take (n - j) (drop j t)
+  abbrev pub letters_left : ℕ → ℕ → List ℕ
+  letters_left j n = take (n - j) (drop j t)
 
-  abbrev pub Ahead : Bool → List ℕ → ℕ → ℕ → Bool
-  Ahead h xs j n = leb j n && follows h true fold xs (Left j n)
+  abbrev pub goes_on : Bool → List ℕ → ℕ → ℕ → Bool
+  goes_on h xs j n = leb j n && follows h true fold xs (letters_left j n)
 
-  pub ahead-first : (h : Bool) (name : List ℕ) (n : ℕ) → Ahead h name 0 n ≡ follows h true fold name (take n t)
-  ahead-first h name n = let e : n - 0 ≡ n = omega arith in rw (e, le-leb 0 n (omega arith))
+  pub on-first : (h : Bool) (name : List ℕ) (n : ℕ) → goes_on h name 0 n ≡ follows h true fold name (take n t)
+  on-first h name n = let e : n - 0 ≡ n = omega arith in rw (e, le-leb 0 n (omega arith))
 
   module _ (j n : ℕ) (m : n ≤ length t) where
     by_place : {X : Type 0} → (n < j → X) → (n ≡ j → X) → (j < n → X) → X
     by_place below here behind = elim (cases_order n j) [ inl e ↦ here e | inr (inl l) ↦ below l | inr (inr l) ↦ behind l ]
 
-    left-none : n ≡ j → Left j n ≡ []
-    left-none e = let z : n - j ≡ 0 = omega arith in rw z
+    letters-none : n ≡ j → letters_left j n ≡ []
+    letters-none e = let z : n - j ≡ 0 = omega arith in rw z
 
-    left-some : j < n → Left j n ≡ get_or t j 0 ∷ Left (j + 1) n
-    left-some l =
+    letters-some : j < n → letters_left j n ≡ get_or t j 0 ∷ letters_left (j + 1) n
+    letters-some l =
         let z : n - j ≡ suc (n - (j + 1)) = omega arith in
         rw (z, drop-cons t j 0 (omega arith), add-one)
 
-    pub ahead-end : (h : Bool) → Ahead h [] j n ≡ eqb n j
+    pub on-end : (h : Bool) → goes_on h [] j n ≡ eqb n j
     unfolding follows
-    ahead-end h =
+    on-end h =
         by_place
         (λ l. rw (lt-leb j n l, ne_eqb n j (omega arith)))
-        (λ e. rw (left-none e, le-leb j n (omega arith), eq-eqb n j e))
-        (λ l. rw (left-some l, le-leb j n (omega arith), ne_eqb n j (omega arith)))
+        (λ e. rw (letters-none e, le-leb j n (omega arith), eq-eqb n j e))
+        (λ l. rw (letters-some l, le-leb j n (omega arith), ne_eqb n j (omega arith)))
 
     module _ (h : Bool) (x : ℕ) (xs : List ℕ) where
-      pub ahead-blank : is_space x ≡ true → Ahead h (x ∷ xs) j n ≡ ((h && (eqb x 32 && eqb n j)) || Ahead h xs j n)
+      pub on-blank : is_space x ≡ true → goes_on h (x ∷ xs) j n ≡ ((h && (eqb x 32 && eqb n j)) || goes_on h xs j n)
       unfolding follows
-      ahead-blank s =
+      on-blank s =
           by_place
           (λ l. rw (lt-leb j n l, ne_eqb n j (omega arith)) (none h (eqb x 32)))
-          (λ e. rw (left-none e, le-leb j n (omega arith), eq-eqb n j e, s) (here h (eqb x 32) (follows h true fold xs [])))
-          (λ l. rw (left-some l, le-leb j n (omega arith), ne_eqb n j (omega arith), s) (behind h (eqb x 32) (follows h true fold xs (get_or t j 0 ∷ Left (j + 1) n))))
+          (λ e. rw (letters-none e, le-leb j n (omega arith), eq-eqb n j e, s) (here h (eqb x 32) (follows h true fold xs [])))
+          (λ l. rw (letters-some l, le-leb j n (omega arith), ne_eqb n j (omega arith), s) (behind h (eqb x 32) (follows h true fold xs (get_or t j 0 ∷ letters_left (j + 1) n))))
         where
           none : (a b : Bool) → false ≡ ((a && (b && false)) || false)
           none true true = refl
@@ -105,26 +105,26 @@ module _ (t : List ℕ) where
           behind true false r = refl
           behind false b r = refl
 
-      pub ahead-letter : is_space x ≡ false → j < length t → eqb (fold x) (fold (get_or t j 0)) ≡ true → Ahead h (x ∷ xs) j n ≡ Ahead h xs (j + 1) n
+      pub on-letter : is_space x ≡ false → j < length t → eqb (fold x) (fold (get_or t j 0)) ≡ true → goes_on h (x ∷ xs) j n ≡ goes_on h xs (j + 1) n
       unfolding follows
-      ahead-letter s w f =
+      on-letter s w f =
           by_place
           (λ l. rw (lt-leb j n l, lt-leb (j + 1) n (omega arith)))
-          (λ e. rw (left-none e, s, no-blank x s, lt-leb (j + 1) n (omega arith)) (none h (leb j n)))
-          (λ l. rw (left-some l, le-leb j n (omega arith), le-leb (j + 1) n (omega arith), s, f))
+          (λ e. rw (letters-none e, s, no-blank x s, lt-leb (j + 1) n (omega arith)) (none h (leb j n)))
+          (λ l. rw (letters-some l, le-leb j n (omega arith), le-leb (j + 1) n (omega arith), s, f))
         where
           none : (a b : Bool) → (b && ((a && false) || false)) ≡ false
           none true true = refl
           none false true = refl
           none a false = refl
 
-      pub ahead-none : is_space x ≡ false → (j < n → eqb (fold x) (fold (get_or t j 0)) ≡ false) → Ahead h (x ∷ xs) j n ≡ false
+      pub on-none : is_space x ≡ false → (j < n → eqb (fold x) (fold (get_or t j 0)) ≡ false) → goes_on h (x ∷ xs) j n ≡ false
       unfolding follows
-      ahead-none s f =
+      on-none s f =
           by_place
           (λ l. rw (lt-leb j n l))
-          (λ e. rw (left-none e, s, no-blank x s) (none h (leb j n)))
-          (λ l. rw (left-some l, s, f l) (and-false (leb j n)))
+          (λ e. rw (letters-none e, s, no-blank x s) (none h (leb j n)))
+          (λ l. rw (letters-some l, s, f l) (and-false (leb j n)))
         where
           none : (a b : Bool) → (b && ((a && false) || false)) ≡ false
           none true true = refl
@@ -135,8 +135,8 @@ module _ (t : List ℕ) where
 pub record Marked (name t : List ℕ) (old now : List Bool) (j : ℕ) (rest : List ℕ) : Type 0 where
   pub within : j ≤ length t
   pub long : length now ≡ length old
-  pub heads : (n : ℕ) → n ≤ length t → (get_or now n false || Ahead t true rest j n) ≡ (get_or old n false || Ahead t true name 0 n)
-  pub ends : (n : ℕ) → n ≤ length t → Ahead t false rest j n ≡ Ahead t false name 0 n
+  pub heads : (n : ℕ) → n ≤ length t → (get_or now n false || goes_on t true rest j n) ≡ (get_or old n false || goes_on t true name 0 n)
+  pub ends : (n : ℕ) → n ≤ length t → goes_on t false rest j n ≡ goes_on t false name 0 n
 
 marked-or : (now : List Bool) (j n : ℕ) (b : Bool) → j < length now → get_or (set now j (get_or now j false || b)) n false ≡ (get_or now n false || (b && eqb n j))
 marked-or now j n b l =
@@ -152,11 +152,11 @@ module _ (name t : List ℕ) (old : List Bool) where
   pub marked-first : Marked name t old old 0 name
   marked-first = record { within = omega arith; long = refl; heads = λ n l. refl; ends = λ n l. refl }
 
-  whole-head : (c : List ℕ) (n : ℕ) → compact c ≡ take n t → Ahead t true name 0 n ≡ head_from same_compact [] name c
-  whole-head c n q = ahead-first t true name n ∙ rw (← q) (sym (head-letters name c))
+  whole-head : (c : List ℕ) (n : ℕ) → compact c ≡ take n t → goes_on t true name 0 n ≡ head_from same_compact [] name c
+  whole-head c n q = on-first t true name n ∙ rw (← q) (sym (head-letters name c))
 
-  whole-same : (c : List ℕ) (n : ℕ) → compact c ≡ take n t → Ahead t false name 0 n ≡ same_compact name c
-  whole-same c n q = ahead-first t false name n ∙ rw (← q) (sym (same-letters name c))
+  whole-same : (c : List ℕ) (n : ℕ) → compact c ≡ take n t → goes_on t false name 0 n ≡ same_compact name c
+  whole-same c n q = on-first t false name n ∙ rw (← q) (sym (same-letters name c))
 
   module _ (now : List Bool) (j : ℕ) (rest : List ℕ) (before : Marked name t old now j rest) where
     -- the name has ended
@@ -164,16 +164,16 @@ module _ (name t : List ℕ) (old : List Bool) where
       done : Marked name t old now j []
       done = subst (Marked name t old now j) e before
 
-      pub marked-heads : Headed name t old (set now j true)
+      pub marked-heads : HeadsMarked name t old (set now j true)
       marked-heads c n m q =
           let a : get_or (set now j true) n false ≡ (get_or now n false || eqb n j) =
           by_cases (eqb n j)
           (λ w. let z : n ≡ j = eqb-true n j w in rw (w, or-true, z, get_or-set_same now j true false l))
           (λ w. rw (w, or-false, get_or-set_other now j n true false (λ z. eqb-false n j w z))) in
-          a ∙ ap (λ (b : Bool). get_or now n false || b) (sym (ahead-end t j n m true)) ∙ done.heads n m ∙ ap (λ (b : Bool). get_or old n false || b) (whole-head c n q)
+          a ∙ ap (λ (b : Bool). get_or now n false || b) (sym (on-end t j n m true)) ∙ done.heads n m ∙ ap (λ (b : Bool). get_or old n false || b) (whole-head c n q)
 
-      pub marked-end : Ended name t (Some j)
-      marked-end = (before.within, λ c n m q. sym (whole-same c n q) ∙ sym (done.ends n m) ∙ ahead-end t j n m false)
+      pub marked-end : EndTold name t (Some j)
+      marked-end = (before.within, λ c n m q. sym (whole-same c n q) ∙ sym (done.ends n m) ∙ on-end t j n m false)
 
     module _ (x : ℕ) (xs : List ℕ) (e : rest ≡ x ∷ xs) where
       here : Marked name t old now j (x ∷ xs)
@@ -183,8 +183,8 @@ module _ (name t : List ℕ) (old : List Bool) where
       marked-letter s w f = record {
         within = omega arith;
         long = before.long;
-        heads = λ n m. ap (λ (b : Bool). get_or now n false || b) (sym (ahead-letter t j n m true x xs s w f)) ∙ here.heads n m;
-        ends = λ n m. sym (ahead-letter t j n m false x xs s w f) ∙ here.ends n m;
+        heads = λ n m. ap (λ (b : Bool). get_or now n false || b) (sym (on-letter t j n m true x xs s w f)) ∙ here.heads n m;
+        ends = λ n m. sym (on-letter t j n m false x xs s w f) ∙ here.ends n m;
       }
 
       pub marked-blank : is_space x ≡ true → j < length now → Marked name t old (set now j (get_or now j false || eqb x 32)) j xs
@@ -192,20 +192,20 @@ module _ (name t : List ℕ) (old : List Bool) where
         within = before.within;
         long = length-set now j (get_or now j false || eqb x 32) ∙ before.long;
         heads = λ n m.
-            rw (marked-or now j n (eqb x 32) l) (or-assoc (get_or now n false) (eqb x 32 && eqb n j) (Ahead t true xs j n))
-            ∙ ap (λ (b : Bool). get_or now n false || b) (sym (ahead-blank t j n m true x xs s)) ∙ here.heads n m;
-        ends = λ n m. sym (ahead-blank t j n m false x xs s) ∙ here.ends n m;
+            rw (marked-or now j n (eqb x 32) l) (or-assoc (get_or now n false) (eqb x 32 && eqb n j) (goes_on t true xs j n))
+            ∙ ap (λ (b : Bool). get_or now n false || b) (sym (on-blank t j n m true x xs s)) ∙ here.heads n m;
+        ends = λ n m. sym (on-blank t j n m false x xs s) ∙ here.ends n m;
       }
 
       -- the byte has no partner
       module _ (s : is_space x ≡ false) (f : (n : ℕ) → n ≤ length t → j < n → eqb (fold x) (fold (get_or t j 0)) ≡ false) where
-        pub none-heads : Headed name t old now
+        pub none-heads : HeadsMarked name t old now
         none-heads c n m q =
-            sym (or-false (get_or now n false)) ∙ ap (λ (b : Bool). get_or now n false || b) (sym (ahead-none t j n m true x xs s (f n m))) ∙ here.heads n m
+            sym (or-false (get_or now n false)) ∙ ap (λ (b : Bool). get_or now n false || b) (sym (on-none t j n m true x xs s (f n m))) ∙ here.heads n m
             ∙ ap (λ (b : Bool). get_or old n false || b) (whole-head c n q)
 
-        pub none-end : Ended name t None
-        none-end c n m q = sym (whole-same c n q) ∙ sym (here.ends n m) ∙ ahead-none t j n m false x xs s (f n m)
+        pub none-end : EndTold name t None
+        none-end c n m q = sym (whole-same c n q) ∙ sym (here.ends n m) ∙ on-none t j n m false x xs s (f n m)
 
 -- what is left of a name, from its next byte
 pub next : (name : List ℕ) (i : ℕ) → i < length name → drop i name ≡ get_or name i 0 ∷ drop (i + 1) name

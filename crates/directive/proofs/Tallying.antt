@@ -11,7 +11,7 @@ use Rattle.rulebook.specs.Lookup.{comparison, entry_from}
 use Rattle.directive.specs.Name.{same_compact, entries_with, only, entry_of, head_from, is_head, may_grow}
 use Rattle.directive.specs.declared.foreseen.Tally.{Tally}
 use Rattle.directive.specs.declared.foreseen.Tally.TheVariants.{Zero, Many}
-use Rattle.directive.specs.Steps.{Sought, Passed, Left, tally, one_more, only_one}
+use Rattle.directive.specs.Steps.{Sought, Unbegun, Left, tally, one_more, only_one}
 
 abbrev pub names_of : List Entry → List (List ℕ)
 names_of es = map (λ e. e.name) es
@@ -132,17 +132,17 @@ module _ (b : Bool) (c : List ℕ) where
   abbrev begun : List ℕ → Bool
   begun n = head_from (same_by (comparing b)) [] n c
 
-  none-passed : (p q : List (List ℕ)) → 0 < length c → Passed b c p → list_any begun q ≡ false → Passed b c (p ++ q)
+  none-passed : (p q : List (List ℕ)) → 0 < length c → Unbegun b c p → list_any begun q ≡ false → Unbegun b c (p ++ q)
   none-passed p q some = go c some
     where
-      go : (d : List ℕ) → 0 < length d → Passed b d p → list_any (λ n. head_from (same_by (comparing b)) [] n d) q ≡ false → Passed b d (p ++ q)
+      go : (d : List ℕ) → 0 < length d → Unbegun b d p → list_any (λ n. head_from (same_by (comparing b)) [] n d) q ≡ false → Unbegun b d (p ++ q)
       go [] l g h = absurd (omega arith)
       go (x ∷ xs) l g h = rw (any-append (λ n. head_from (same_by (comparing b)) [] n (x ∷ xs)) p q, g, h)
 
-  passed-none : (p : List (List ℕ)) → 0 < length c → Passed b c p → list_any begun p ≡ false
+  passed-none : (p : List (List ℕ)) → 0 < length c → Unbegun b c p → list_any begun p ≡ false
   passed-none p some = go c some
     where
-      go : (d : List ℕ) → 0 < length d → Passed b d p → list_any (λ n. head_from (same_by (comparing b)) [] n d) p ≡ false
+      go : (d : List ℕ) → 0 < length d → Unbegun b d p → list_any (λ n. head_from (same_by (comparing b)) [] n d) p ≡ false
       go [] l g = absurd (omega arith)
       go (x ∷ xs) l g = g
 

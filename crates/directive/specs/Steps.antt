@@ -28,13 +28,13 @@ Sought test before after found =
     (passed : List (List ℕ)) × (before ≡ passed ++ after) × (list_any test passed ≡ false) × (found ≡ list_any test after)
 
 -- names that a candidate is a beginning of none of; before the first word there are none
-abbrev pub Passed : Bool → List ℕ → List (List ℕ) → Type 0
-Passed ignore_case [] names = names ≡ []
-Passed ignore_case (x ∷ xs) names = list_any (λ n. head_from (same_by (comparing ignore_case)) [] n (x ∷ xs)) names ≡ false
+abbrev pub Unbegun : Bool → List ℕ → List (List ℕ) → Type 0
+Unbegun ignore_case [] names = names ≡ []
+Unbegun ignore_case (x ∷ xs) names = list_any (λ n. head_from (same_by (comparing ignore_case)) [] n (x ∷ xs)) names ≡ false
 
 -- what is left of an empty name and those of a book, once names are passed
 abbrev pub Left : Book → List ℕ → List (List ℕ) → Type 0
-Left book c left = (passed : List (List ℕ)) × ([] ∷ map (λ e. e.name) book.directives ≡ passed ++ left) × Passed book.ignores_case c passed
+Left book c left = (passed : List (List ℕ)) × ([] ∷ map (λ e. e.name) book.directives ≡ passed ++ left) × Unbegun book.ignores_case c passed
 
 -- one name more that ends at a place
 abbrev pub one_more : Tally → ℕ → Tally
@@ -62,13 +62,13 @@ abbrev pub OfEach : List ℕ → (List ℕ → ℕ → Type 0) → Type 0
 OfEach letters P = (c : List ℕ) (n : ℕ) → n ≤ length letters → compact c ≡ take n letters → P c n
 
 -- the places are marked up to which a name has these letters and then a blank or its end
-abbrev pub Headed : List ℕ → List ℕ → List Bool → List Bool → Type 0
-Headed name letters old new = OfEach letters (λ c n. get_or new n false ≡ (get_or old n false || head_from same_compact [] name c))
+abbrev pub HeadsMarked : List ℕ → List ℕ → List Bool → List Bool → Type 0
+HeadsMarked name letters old new = OfEach letters (λ c n. get_or new n false ≡ (get_or old n false || head_from same_compact [] name c))
 
 -- where a name ends that has these letters
-abbrev pub Ended : List ℕ → List ℕ → Option ℕ → Type 0
-Ended name letters None = OfEach letters (λ c n. same_compact name c ≡ false)
-Ended name letters (Some end) = (end ≤ length letters) × OfEach letters (λ c n. same_compact name c ≡ eqb n end)
+abbrev pub EndTold : List ℕ → List ℕ → Option ℕ → Type 0
+EndTold name letters None = OfEach letters (λ c n. same_compact name c ≡ false)
+EndTold name letters (Some end) = (end ≤ length letters) × OfEach letters (λ c n. same_compact name c ≡ eqb n end)
 
 -- the names of a book are counted by these letters
 pub record Counted (book : Book) (letters : List ℕ) (heads : List Bool) (ends : List Tally) : Type 0 where

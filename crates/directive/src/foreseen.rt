@@ -3,7 +3,7 @@ ghost use Rattle.std.specs.Prelude.{◌≡◌, ◌+◌, ◌≤◌, true, false, 
 ghost use Rattle.ascii.specs.Ascii.{fold};
 ghost use Rattle.rulebook.specs.Book.{book_of};
 ghost use Rattle.directive.specs.Name.{compact};
-ghost use Rattle.directive.specs.Steps.{alike_to, one_more, only_one, Extended, Headed, Ended};
+ghost use Rattle.directive.specs.Steps.{alike_to, one_more, only_one, Extended, HeadsMarked, EndTold};
 ghost use Rattle.directive.specs.Kept.{Foretells, Passes};
 
 use crate::alike::{eight_folded, eight_same};
@@ -13,6 +13,9 @@ use ascii::sets::Word;
 use ascii::{begins_at, run_end, same_byte};
 use lexer::trivia::skip;
 use rulebook::CheckedBook;
+
+// The places of a text without blanks, which is a candidate's at most: one more than its bytes.
+const PLACES: usize = 129;
 
 // How many names end at a place: none, one, by the number of its entry, or more.
 #[derive(Clone, Copy)]
@@ -49,8 +52,8 @@ pub struct Foreseen {
     pub letters: Candidate,
     // the letters of the candidate itself
     pub reached: usize,
-    pub heads: [bool; 129],
-    pub ends: [Tally; 129],
+    pub heads: [bool; PLACES],
+    pub ends: [Tally; PLACES],
 }
 
 // Adds the words that follow in a text, as far as trivia and room allow.
@@ -80,11 +83,11 @@ fn next_eight(name: &[u8], at: usize, letters: &[u8], place: usize) -> bool
 }
 
 // Marks the places where a name that has the letters up to there has a blank or ends, and tells where it ends.
-fn mark(name: &[u8], letters: &[u8], heads: &mut [bool; 129]) -> Option<usize>
+fn mark(name: &[u8], letters: &[u8], heads: &mut [bool; PLACES]) -> Option<usize>
     requires fits { length letters.now ≤ 128 }
     requires solid { compact letters.now ≡ letters.now }
-    ensures heads { Headed name.now letters.now heads.old heads.new }
-    ensures end { Ended name.now letters.now result }
+    ensures heads { HeadsMarked name.now letters.now heads.old heads.new }
+    ensures end { EndTold name.now letters.now result }
 {
     let mut place = 0;
     let mut at = 0;
@@ -120,8 +123,8 @@ impl Foreseen {
         let reached = letters.as_slice().len();
         gather(text, end, book.header.ignores_case, &mut letters);
         let known = letters.as_slice();
-        let mut heads = [false; 129];
-        let mut ends = [Tally::Zero; 129];
+        let mut heads = [false; PLACES];
+        let mut ends = [Tally::Zero; PLACES];
         let mut number = 0;
         for name in book.directive_names() {
             if let Some(place) = mark(name, known, &mut heads) {
