@@ -8,8 +8,8 @@ use Prim.Native.Nat.{ℕ, zero, suc, ◌+◌, ◌-◌, ◌<◌, ◌≤◌}
 use native.Mathlib.Nat.{add-zero}
 use native.Mathlib.Numerals.{add-one}
 use native.Mathlib.Omega.{arith}
-use lib.ListN.{length, take, drop, get_or, set}
-use lib.Seq.{drop-cons}
+use lib.ListN.{length, take, drop, get_or, set, length-drop}
+use lib.Seq.{drop-cons, get_or-drop, take-length}
 use lib.Dec.{eqb, leb}
 use borrow.Author.Tests.{le-leb, lt-leb, eq-eqb, ne_eqb, eqb-true, eqb-false}
 use Rattle.std.specs.Prelude.{Some, None}
@@ -18,7 +18,7 @@ use Rattle.std.proofs.lemmas.Bool.{cases_order}
 use Rattle.ascii.specs.Ascii.{is_space, fold}
 use Rattle.ascii.proofs.Flags.{by_cases}
 use Rattle.directive.specs.Name.{compact, same_compact, head_from}
-use Rattle.directive.specs.Steps.{HeadsMarked, EndTold}
+use Rattle.directive.specs.Steps.{RunAlike, HeadsMarked, EndTold}
 use Rattle.directive.proofs.Agreeing.{squeezed-compact, headed-heads, headed-whole, plain}
 use Rattle.directive.proofs.Beginning.{follows, headed-follows}
 use Rattle.directive.proofs.Long.{compact-le}
@@ -213,7 +213,7 @@ next name i l = rw add-one (drop-cons name i 0 l)
 
 -- so many bytes that are the next letters
 module _ (name t : List ℕ) (old now : List Bool) (solid : compact t ≡ t) where
-  pub marked-many : (k i j : ℕ) → i + k ≤ length name → j + k ≤ length t → ((m : ℕ) → m < k → eqb (fold (get_or name (i + m) 0)) (fold (get_or t (j + m) 0)) ≡ true)
+  marked-many : (k i j : ℕ) → i + k ≤ length name → j + k ≤ length t → ((m : ℕ) → m < k → eqb (fold (get_or name (i + m) 0)) (fold (get_or t (j + m) 0)) ≡ true)
       → Marked name t old now j (drop i name) → Marked name t old now (j + k) (drop (i + k) name)
   marked-many zero i j l m f h = rw (add-zero, add-zero) h
   marked-many (suc k) i j l m f h =
@@ -224,3 +224,13 @@ module _ (name t : List ℕ) (old now : List Bool) (solid : compact t ≡ t) whe
       let s : is_space (get_or name (i + k) 0) ≡ false = fold-space (get_or name (i + k) 0) (get_or t (j + k) 0) e ∙ solid-at t (j + k) solid in
       rw (← p, ← q)
       (marked-letter name t old now (j + k) (drop (i + k) name) g (get_or name (i + k) 0) (drop (i + k + 1) name) (next name (i + k) (omega arith)) s (omega arith) e)
+
+  -- the same of what is left of the name and of the letters
+  pub marked-run : (i j k : ℕ) → i < length name → RunAlike (drop i name) (drop j t) k → Marked name t old now j (drop i name) → Marked name t old now (j + k) (drop (i + k) name)
+  marked-run i j k b (l, m, f) h =
+      let p = length-drop i name in
+      let q = length-drop j t in
+      marked-many k i j (omega (arith, p)) (omega (arith, q, h.within)) (λ n d. rw (get_or-drop i name n 0, get_or-drop j t n 0) at (f n d)) h
+
+pub rest-whole : (xs : List ℕ) (i : ℕ) → take (length xs - i) (drop i xs) ≡ drop i xs
+rest-whole xs i = rw (← length-drop i xs) (take-length (drop i xs))

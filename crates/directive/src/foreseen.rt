@@ -1,9 +1,8 @@
 // The names of a book without their blanks, held once for a line against a candidate and all that may follow it.
 ghost use Rattle.std.specs.Prelude.{◌≡◌, ◌+◌, ◌≤◌, true, false, length, get_or};
-ghost use Rattle.ascii.specs.Ascii.{fold};
 ghost use Rattle.rulebook.specs.Book.{book_of};
 ghost use Rattle.directive.specs.Name.{compact};
-ghost use Rattle.directive.specs.Steps.{alike_to, one_more, only_one, Extended, HeadsMarked, EndTold};
+ghost use Rattle.directive.specs.Steps.{RunAlike, one_more, only_one, Extended, HeadsMarked, EndTold};
 ghost use Rattle.directive.specs.Kept.{Foretells, Passes};
 
 use crate::alike::{eight_folded, eight_same};
@@ -71,15 +70,19 @@ fn gather(text: &[u8], end: usize, ignores_case: bool, letters: &mut Candidate)
     }
 }
 
-// Whether the next eight bytes of a name are the next eight letters.
-fn next_eight(name: &[u8], at: usize, letters: &[u8], place: usize) -> bool
-    requires { (at ≤ length name.now) × (place ≤ length letters.now) }
-    ensures { result ≡ true → (at + 8 ≤ length name.now) × (place + 8 ≤ length letters.now) × (alike_to fold name.now at letters.now place 7 ≡ true) }
+// How many bytes of a name, by eights, are letters that two texts begin with alike.
+fn run_alike(name: &[u8], letters: &[u8]) -> usize
+    ensures { RunAlike name.now letters.now result }
 {
-    if name.len() < at + 8 || letters.len() < place + 8 {
-        return false;
+    let most = name.len().min(letters.len());
+    let mut run = 0;
+    while run + 8 <= most {
+        if !eight_same(name, run, letters, run) && !eight_folded(name, run, letters, run) {
+            return run;
+        }
+        run += 8;
     }
-    eight_same(name, at, letters, place) || eight_folded(name, at, letters, place)
+    run
 }
 
 // Marks the places where a name that has the letters up to there has a blank or ends, and tells where it ends.
@@ -92,11 +95,14 @@ fn mark(name: &[u8], letters: &[u8], heads: &mut [bool; PLACES]) -> Option<usize
     let mut place = 0;
     let mut at = 0;
     while at < name.len() {
-        // the first byte tells most names apart; behind it as many as can be at once
-        if at % 8 == 1 && next_eight(name, at, letters, place) {
-            at += 8;
-            place += 8;
-            continue;
+        // the first byte tells most names apart; behind it as many as can be at once, but for names with a blank here and there this is asked now and then
+        if at % 16 == 1 {
+            let run = run_alike(&name[at..], &letters[place..]);
+            if run != 0 {
+                at += run;
+                place += run;
+                continue;
+            }
         }
         let x = name[at];
         at += 1;

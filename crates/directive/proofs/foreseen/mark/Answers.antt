@@ -3,21 +3,20 @@ use Rattle.std.proofs.Common.{◌≡◌, ◌<◌, ◌≤◌, ◌+◌, ℕ, lengt
 use Rattle.ascii.specs.Ascii.{fold}
 use lib.Dec.{eqb}
 use lib.ListN.{drop_of_length-le}
-use Rattle.directive.proofs.Eights.{alike-each}
-use Rattle.directive.proofs.Marking.{next, marked-first, marked-many, marked-letter, marked-blank, marked-heads, marked-end, none-heads, none-end}
+use Rattle.directive.proofs.Marking.{next, marked-first, marked-run, rest-whole, marked-letter, marked-blank, marked-heads, marked-end, none-heads, none-end}
 use Rattle.directive.proofs.foreseen.mark.Goals as goal
 use Rattle.directive.proofs.foreseen.mark.Goals.{then-place-letters-via-then-place-letters, then-place-letters-via-else-place-letters+then-not-same_byte}
 
 pub loop-at-init : goal.loop-at-init
 loop-at-init c = marked-first c.args.name.now c.args.letters.now c.args.heads.now
 
-pub loop-at-preserved-then-next_eight : goal.loop-at-preserved-then-next_eight
-loop-at-preserved-then-next_eight c =
+pub loop-at-preserved-then-run-ne0 : goal.loop-at-preserved-then-run-ne0
+loop-at-preserved-then-run-ne0 c =
     let l = c.loop-at in
     let n = c.args.name.now in
     let t = c.args.letters.now in
-    let e = c.next_eight.ensures c.if-next_eight.true in
-    marked-many n t c.args.heads.now l.heads c.requires.solid 8 l.at l.place e.0 e.1 (λ m b. alike-each n l.at t l.place fold 7 m (omega arith) e.2) l.invariant
+    let e = rw (rest-whole n l.at, rest-whole t l.place) at c.run_alike-run.ensures in
+    marked-run n t c.args.heads.now l.heads c.requires.solid l.at l.place c.run_alike-run.result c.loop-at-test.true e l.invariant
 
 pub loop-at-preserved-then-is_space : goal.loop-at-preserved-then-is_space
 loop-at-preserved-then-is_space c =
