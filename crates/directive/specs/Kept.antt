@@ -22,7 +22,7 @@ abbrev pub IfForeseen : Book → List ℕ → Option Foreseen → Type 0
 IfForeseen book c None = Unit {0}
 IfForeseen book c (Some f) = Foretells book c f
 
--- what is foreseen, if anything is, goes on behind the candidate or not, but not past the letters
+-- the candidate's own letters, if anything is foreseen for it, are among those that were gathered
 abbrev pub Within : Option Foreseen → Type 0
 Within None = Unit {0}
 Within (Some f) = f.reached ≤ length f.letters

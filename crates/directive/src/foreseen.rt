@@ -13,7 +13,7 @@ use ascii::{begins_at, run_end, same_byte};
 use lexer::trivia::skip;
 use rulebook::CheckedBook;
 
-// The places of a text without blanks, which is a candidate's at most: one more than its bytes.
+// The places of letters, of which there are as many as a candidate has room for: before each, and behind the last.
 const PLACES: usize = 129;
 
 // How many names end at a place: none, one, by the number of its entry, or more.
@@ -70,7 +70,7 @@ fn gather(text: &[u8], end: usize, ignores_case: bool, letters: &mut Candidate)
     }
 }
 
-// How many bytes of a name, by eights, are letters that two texts begin with alike.
+// How many bytes, by eights, a name and letters begin with alike, with case ignored.
 fn run_alike(name: &[u8], letters: &[u8]) -> usize
     ensures { RunAlike name.now letters.now result }
 {
@@ -95,7 +95,7 @@ fn mark(name: &[u8], letters: &[u8], heads: &mut [bool; PLACES]) -> Option<usize
     let mut place = 0;
     let mut at = 0;
     while at < name.len() {
-        // the first byte tells most names apart; behind it as many as can be at once, but for names with a blank here and there this is asked now and then
+        // The first byte tells most names apart. Behind it as many are passed as can be, which is tried now and then: a name may have blanks all along.
         if at % 16 == 1 {
             let run = run_alike(&name[at..], &letters[place..]);
             if run != 0 {
