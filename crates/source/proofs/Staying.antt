@@ -1,91 +1,107 @@
--- Laws of a run that stays: none, one byte more at its end, one before it, a run of plain bytes; a byte that is neither `\` nor `&` begins no continuation.
+-- Laws of a run that stays: none, one byte before it, a run of bytes that begin no continuation; what is filled in for it.
 -- Assumes nothing.
 use Prim.Native.Nat.{ℕ, zero, suc, ◌+◌, ◌-◌, ◌<◌, ◌≤◌}
 use native.Mathlib.Nat.{add-zero}
 use native.Mathlib.Numerals.{add-one}
 use native.Mathlib.Omega.{arith}
-use mathlib.Core.Path.{◌≡◌, refl, ap, ◌∙◌}
-use mathlib.Core.Bool.{true, false, not}
+use mathlib.Core.Path.{◌≡◌, refl, sym, ap, ◌∙◌}
+use mathlib.Core.Bool.{Bool, true, false}
 use mathlib.Core.List.{List, [], ◌∷◌, ◌++◌, map, append_assoc}
 use lib.ListN.{length, take, drop, get_or, length-drop}
-use lib.Seq.{drop-cons, take-suc, get_or-drop, length-take-le}
+use lib.Seq.{drop-cons, get_or-drop}
 use lib.Dec.{eqb}
 use borrow.Author.Tests.{not-true}
 use Rattle.ascii.proofs.Flags.{and_left, and_right}
 use Rattle.std.specs.List.{prefix_len}
 use Rattle.std.proofs.lemmas.List.Sums.{prefix_len_passes}
 use Rattle.ascii.specs.Text.{leading}
-use Rattle.ascii.proofs.Texts.{leading_le, leading_counts}
+use Rattle.ascii.proofs.Texts.{leading_le, leading_counts, leading_is, leading-more}
 use borrow.Rule.Slice.PartMut.{put_mid}
 use Rattle.std.proofs.lemmas.Slice.{take-put_mid}
 use Rattle.std.specs.Prelude.{None}
 use Rattle.lexer.specs.Continuation.{if_any, break_c, break_f}
-use Rattle.source.specs.Joining.{any_cut, byte_of}
-use Rattle.source.specs.Staying.{is_plain, staying, Stays}
+use Rattle.source.specs.Joining.{any_cut, byte_of, place_of}
+use Rattle.source.specs.Staying.{is_plain_c, is_plain_f, is_plain, counted, Stays}
 use Rattle.source.proofs.Kept.{kept_next}
 
+-- a byte without the property, which the place has to be of, ends a run at its start
+pub leading-here : (p : ℕ → Bool) (xs : List ℕ) (i : ℕ) → i < length xs → p (get_or xs i 0) ≡ false → leading p (drop i xs) ≡ 0
+leading-here p xs i h e = leading_is p (drop i xs) 0 (omega arith) (λ k z. absurd (omega arith)) (λ z. rw (get_or-drop, add-zero) e)
+
+-- a byte that is no mark begins no continuation
 module _ (xs : List ℕ) (i : ℕ) where
   first-is : get_or (drop i xs) 0 0 ≡ get_or xs i 0
   first-is = get_or-drop i xs 0 0 ∙ rw add-zero refl
 
-  pub plain-stays : is_plain (get_or xs i 0) ≡ true → if_any (any_cut (drop i xs)) ≡ None
-  unfolding break_c break_f
-  plain-stays e =
+  pub plain-c : is_plain_c (get_or xs i 0) ≡ true → break_c (drop i xs) ≡ 0
+  unfolding break_c
+  plain-c e =
+      let p : eqb (get_or (drop i xs) 0 0) 92 ≡ false = rw first-is (not-true (eqb (get_or xs i 0) 92) e) in
+      rw p refl
+
+  pub plain-f : is_plain_f (get_or xs i 0) ≡ true → break_f (drop i xs) ≡ 0
+  unfolding break_f
+  plain-f e =
+      let p : eqb (get_or (drop i xs) 0 0) 38 ≡ false = rw first-is (not-true (eqb (get_or xs i 0) 38) e) in
+      rw p refl
+
+  pub plain-any : is_plain (get_or xs i 0) ≡ true → any_cut (drop i xs) ≡ 0
+  plain-any e =
       let b = get_or xs i 0 in
-      let p : eqb (get_or (drop i xs) 0 0) 92 ≡ false = rw first-is (not-true (eqb b 92) (and_left (not (eqb b 92)) (not (eqb b 38)) e)) in
-      let q : eqb (get_or (drop i xs) 0 0) 38 ≡ false = rw first-is (not-true (eqb b 38) (and_right (not (eqb b 92)) (not (eqb b 38)) e)) in
-      rw (p, q) refl
+      rw (plain-c (and_left (is_plain_c b) (is_plain_f b) e), plain-f (and_right (is_plain_c b) (is_plain_f b) e)) refl
 
-  -- the next byte stays
-  staying-next : i < length xs → if_any (any_cut (drop i xs)) ≡ None → staying xs i ≡ get_or xs i 0 ∷ staying xs (i + 1)
-  staying-next h e = ap (map byte_of) (kept_next any_cut xs i h e)
-
-module _ (xs : List ℕ) (from : ℕ) where
-  pub stays-none : from ≤ length xs → Stays xs from from
-  stays-none h =
+module _ (cut : List ℕ → ℕ) (xs : List ℕ) where
+  stays-none : (from : ℕ) → from ≤ length xs → Stays cut xs from from
+  unfolding counted
+  stays-none from h =
       let n : from - from ≡ 0 = omega arith in
-      record { ordered = omega arith; within = h; kept = rw n refl }
-
-  -- one byte more
-  pub stays-more : (i : ℕ) → Stays xs from i → i < length xs → is_plain (get_or xs i 0) ≡ true → Stays xs from (i + 1)
-  stays-more i s h e =
-      let o = s.ordered in
-      let n : i + 1 - from ≡ suc (i - from) = omega arith in
-      let g : get_or (drop from xs) (i - from) 0 ≡ get_or xs i 0 = get_or-drop from xs (i - from) 0 ∙ (let m : from + (i - from) ≡ i = omega arith in rw m refl) in
-      let l : i - from < length (drop from xs) = simp length-drop (omega arith) in
-      let t : take (i + 1 - from) (drop from xs) ≡ take (i - from) (drop from xs) ++ (get_or xs i 0 ∷ []) = rw n (take-suc (drop from xs) (i - from) 0 l ∙ rw g refl) in
-      record {
-        ordered = omega arith;
-        within = omega arith;
-        kept = s.kept ∙ rw (t, append_assoc) (ap (λ (r : List ℕ). take (i - from) (drop from xs) ++ r) (staying-next xs i h (plain-stays xs i e)));
-      }
+      record { ordered = omega arith; within = h; bytes = rw n refl; places = rw n refl }
 
   -- one byte before
-  pub stays-first : (end : ℕ) → from < length xs → if_any (any_cut (drop from xs)) ≡ None → Stays xs (from + 1) end → Stays xs from end
-  stays-first end h e s =
+  pub stays-first : (from end : ℕ) → from < length xs → if_any (cut (drop from xs)) ≡ None → Stays cut xs (from + 1) end → Stays cut xs from end
+  unfolding counted
+  stays-first from end h e s =
       let o = s.ordered in
       let n : end - from ≡ suc (end - (from + 1)) = omega arith in
+      let next = kept_next cut xs from h e in
       record {
         ordered = omega arith;
         within = s.within;
-        kept = staying-next xs from h e ∙ ap (λ (r : List ℕ). get_or xs from 0 ∷ r) s.kept ∙ rw (n, drop-cons xs from 0, ← add-one from) refl;
+        bytes = ap (map byte_of) next ∙ ap (λ (r : List ℕ). get_or xs from 0 ∷ r) s.bytes ∙ rw (n, drop-cons xs from 0, ← add-one from) refl;
+        places = ap (map place_of) next ∙ ap (λ (r : List ℕ). from ∷ r) s.places ∙ rw (n, ← add-one from) refl;
       }
 
--- a run of plain bytes stays
-pub stays-run : (xs : List ℕ) (from n : ℕ) → from ≤ length xs → n ≤ leading is_plain (drop from xs) → Stays xs from (from + n)
-stays-run xs from zero h e = rw add-zero (stays-none xs from h)
-stays-run xs from (suc n) h e =
-    let m : from + n + 1 ≡ from + suc n = omega arith in
-    let l : n < prefix_len is_plain (drop from xs) = omega (arith, leading_counts is_plain (drop from xs)) in
-    let plain : is_plain (get_or xs (from + n) 0) ≡ true = rw (← get_or-drop from xs n 0) (prefix_len_passes is_plain (drop from xs) n 0 l) in
-    rw m at (stays-more xs from (from + n) (stays-run xs from n h (omega arith)) (omega (arith, leading_le is_plain (drop from xs), length-drop from xs)) plain)
+  -- a run of bytes that begin no continuation stays
+  pub stays-run : (p : ℕ → Bool) → ((i : ℕ) → p (get_or xs i 0) ≡ true → cut (drop i xs) ≡ 0) → (n from : ℕ) → from ≤ length xs → n ≤ leading p (drop from xs)
+      → Stays cut xs from (from + n)
+  stays-run p free zero from h e = rw add-zero (stays-none from h)
+  stays-run p free (suc n) from h e =
+      let m : from + 1 + n ≡ from + suc n = omega arith in
+      let l : from < length xs = omega (arith, leading_le p (drop from xs), length-drop from xs) in
+      let z : 0 < prefix_len p (drop from xs) = omega (arith, leading_counts p (drop from xs)) in
+      let b : p (get_or xs from 0) ≡ true = rw (get_or-drop, add-zero) at (prefix_len_passes p (drop from xs) 0 0 z) in
+      rw m at (stays-first from (from + 1 + n) l (ap if_any (free from b)) (stays-run p free n (from + 1) (omega arith) (omega (arith, leading-more p xs from l b))))
 
--- what is copied, with what stays behind a run, is the whole again
-pub copied : (xs buffer part : List ℕ) (i k end : ℕ) → k ≤ length buffer → Stays xs i end → part ≡ take (end - i) (drop i xs) → take k buffer ++ staying xs i ≡ staying xs 0
-    → take (k + length part) (put_mid k (k + length part - k) buffer part) ++ staying xs (i + length part) ≡ staying xs 0
-copied xs buffer part i k end h s e f =
-    let o = s.ordered in
-    let w = s.within in
-    let n : length part ≡ end - i = rw e (length-take-le (end - i) (drop i xs) (rw length-drop (omega arith))) in
-    let m : i + length part ≡ end = omega arith in
-    rw (take-put_mid k (k + length part - k) buffer part (k + length part) refl h, m, append_assoc, e, ← s.kept) f
+-- places to come: one more, none
+module _ (i k n : ℕ) where
+  pub counted-next : k < n → counted i (n - k) ≡ i ∷ counted (i + 1) (n - (k + 1))
+  unfolding counted
+  counted-next h =
+      let m : n - k ≡ suc (n - (k + 1)) = omega arith in
+      rw (m, add-one i) refl
+
+  pub counted-none : n ≤ k → counted i (n - k) ≡ []
+  unfolding counted
+  counted-none h =
+      let m : n - k ≡ 0 = omega arith in
+      rw m refl
+
+pub length-counted : (at n : ℕ) → length (counted at n) ≡ n
+unfolding counted
+length-counted at zero = refl
+length-counted at (suc n) = ap suc (length-counted (suc at) n)
+
+-- slots that are filled from the front: n put in at k are what came next, and what is still to come is behind them
+pub filled : {A : Type 0} (slots part to_come behind whole : List A) (k n : ℕ) → length part ≡ n → k ≤ length slots → to_come ≡ part ++ behind → take k slots ++ to_come ≡ whole
+    → take (k + n) (put_mid k (k + n - k) slots part) ++ behind ≡ whole
+filled slots part to_come behind whole k n l h e f = rw (take-put_mid k (k + n - k) slots part (k + n) (ap (λ m. k + m) (sym l)) h, append_assoc, ← e) f

@@ -1,17 +1,29 @@
--- A run of a content's bytes that all stay in its copy.
-use Rattle.std.specs.Prelude.{ℕ, ◌-◌, ◌≤◌, ◌≡◌, Bool, not, ◌&&◌, eqb, List, ◌++◌, map, length, take, drop}
-use Rattle.source.specs.Joining.{kept_from, any_cut, byte_of}
+-- A run of bytes that all stay, with their places.
+use Rattle.std.specs.Prelude.{ℕ, zero, suc, ◌-◌, ◌≤◌, ◌≡◌, Bool, not, ◌&&◌, eqb, List, [], ◌∷◌, ◌++◌, map, length, take, drop}
+use Rattle.source.specs.Joining.{Kept, kept_from, byte_of, place_of}
 
--- a byte that begins no continuation: no `\` or `&`
+-- a byte that begins no continuation of C, of Fortran, of either
+abbrev pub is_plain_c : ℕ → Bool
+is_plain_c b = not (eqb b 92)
+
+abbrev pub is_plain_f : ℕ → Bool
+is_plain_f b = not (eqb b 38)
+
 abbrev pub is_plain : ℕ → Bool
-is_plain b = not (eqb b 92) && not (eqb b 38)
+is_plain b = is_plain_c b && is_plain_f b
 
--- what stays from a place on
-abbrev pub staying : List ℕ → ℕ → List ℕ
-staying xs at = map byte_of (kept_from any_cut 0 at (drop at xs))
+-- what stays from a place on, by the rule of what is cut
+abbrev pub staying : (List ℕ → ℕ) → List ℕ → ℕ → List Kept
+staying cut xs at = kept_from cut 0 at (drop at xs)
+
+-- so many places from one on
+unfoldable pub counted : ℕ → ℕ → List ℕ
+counted at zero = []
+counted at (suc n) = at ∷ counted (suc at) n
 
 -- from a place up to another all bytes stay
-pub record Stays (xs : List ℕ) (from end : ℕ) : Type 0 where
+pub record Stays (cut : List ℕ → ℕ) (xs : List ℕ) (from end : ℕ) : Type 0 where
   pub ordered : from ≤ end
   pub within : end ≤ length xs
-  pub kept : staying xs from ≡ take (end - from) (drop from xs) ++ staying xs end
+  pub bytes : map byte_of (staying cut xs from) ≡ take (end - from) (drop from xs) ++ map byte_of (staying cut xs end)
+  pub places : map place_of (staying cut xs from) ≡ counted from (end - from) ++ map place_of (staying cut xs end)

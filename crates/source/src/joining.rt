@@ -55,15 +55,16 @@ pub fn join_into(language: Language, line: &[u8], text: &mut [u8], map: &mut [u1
     let mut i = 0;
     let mut k = 0;
     let lines = lines_of(language, line);
-    // by a byte that stays, or a break that goes
+    // by runs and breaks
     while i < line.len() {
         match cut_at(language, &lines, i) {
             Some(gone) => i += gone,
             None => {
-                text[k] = line[i];
-                map[k] = i as u16;
-                k += 1;
-                i += 1;
+                let run = &line[i..runs::plain_end_of(language, line, i + 1)];
+                runs::store(run, &mut text[k..k + run.len()]);
+                runs::count_up(&mut map[k..k + run.len()], i);
+                k += run.len();
+                i += run.len();
             }
         }
     }
@@ -88,7 +89,7 @@ pub fn copy_into(content: &[u8], copy: &mut [u8]) -> usize
             Some(gone) => i += gone,
             None => {
                 let run = &content[i..runs::plain_end(content, i + 1)];
-                copy[k..k + run.len()].copy_from_slice(run);
+                runs::store(run, &mut copy[k..k + run.len()]);
                 k += run.len();
                 i += run.len();
             }

@@ -1,11 +1,11 @@
 -- A byte that stays is copied with the run behind it; a continuation is passed over.
-use Rattle.std.proofs.Common.{◌≡◌, ◌-◌, ◌∙◌, ◌≤◌, sym, refl, ap, arith, rules, take, drop, length, length-drop}
+use Rattle.std.proofs.Common.{◌≡◌, ◌+◌, ◌-◌, ◌∙◌, ◌≤◌, sym, refl, arith, take, drop, length, length-drop}
 use Rattle.std.proofs.Math.Seq.{length-take-le}
 use Rattle.std.proofs.lemmas.List.{append-nil}
 use Rattle.source.specs.Joining.{any_cut, collapsed}
 use Rattle.source.specs.Staying.{Stays}
 use Rattle.source.proofs.Kept.{kept-jump, kept-end}
-use Rattle.source.proofs.Staying.{stays-first, copied}
+use Rattle.source.proofs.Staying.{stays-first, filled}
 use Rattle.source.proofs.joining.copy_into.Goals as goal
 
 pub loop-i-preserved : goal.loop-i-preserved
@@ -16,16 +16,15 @@ loop-i-preserved c =
     let run = take (end - i) (drop i t) in
     let same = c.seek_at.ensures ∙ c.loop-i.invariant.text in
     let none = rw same at (sym c.any_cut_at.ensures.value ∙ c.in-None.is) in
-    let s : Stays t i end = stays-first t i end c.loop-i-test.true none c.plain_end.ensures in
+    let s : Stays any_cut t i end = stays-first any_cut t i end c.loop-i-test.true none c.plain_end.ensures in
     let o : i ≤ end = s.ordered in
     let w : end ≤ length t = s.within in
     let n : length run ≡ end - i = length-take-le (end - i) (drop i t) (rw length-drop (omega arith)) in
-    let part : c.copy_from_slice.new.self ≡ run = search rules in
-    let size : length c.copy_from_slice.new.self ≡ length run = ap length part in
+    let m : i + length run ≡ end = omega arith in
     record {
       behind = omega arith;
       within = omega arith;
-      copy = rw part (copied t c.loop-i.copy run i c.loop-i.k end (omega arith) s refl c.loop-i.invariant.copy);
+      copy = rw (c.store.ensures, m) (filled c.loop-i.copy run _ _ _ c.loop-i.k (length run) refl (omega arith) s.bytes c.loop-i.invariant.copy);
       text = same;
     }
 

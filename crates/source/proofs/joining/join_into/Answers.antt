@@ -1,23 +1,36 @@
--- A byte that stays is written with its place; a continuation is passed over.
-use Rattle.std.proofs.Common.{◌∙◌, ◌<◌, ◌≤◌, sym, arith, length, add-one}
+-- A byte that stays is written with the run behind it, and their places; a continuation is passed over. Assumes nothing.
+use Rattle.std.proofs.Common.{◌≡◌, refl, ◌+◌, ◌-◌, ◌∙◌, ◌<◌, ◌≤◌, sym, arith, take, drop, length, length-drop, add-one}
 use Rattle.std.proofs.Math.Seq.{length-take-le, take-suc-set}
 use Rattle.std.proofs.lemmas.List.{append-nil}
-use Rattle.ascii.proofs.Slots.{pushed}
-use Rattle.source.specs.Joining.{joined_text, joined_map}
-use Rattle.source.proofs.Kept.{kept_next, kept-jump, kept-end}
+use Rattle.source.specs.Joining.{cut_of, joined_text, joined_map}
+use Rattle.source.specs.Staying.{counted, Stays}
+use Rattle.source.proofs.Kept.{kept-jump, kept-end}
+use Rattle.source.proofs.Staying.{stays-first, length-counted, filled}
 use Rattle.source.proofs.joining.join_into.Goals as goal
 
 pub loop-i-preserved : goal.loop-i-preserved
 loop-i-preserved c =
     let l = c.loop-i in
+    let t = c.args.line.now in
+    let i = l.i in
+    let end = c.plain_end_of.result in
+    let cut = cut_of c.args.language in
+    let run = take (end - i) (drop i t) in
     let none = rw c.lines_of-lines.ensures at (sym c.cut_at.ensures.value ∙ c.in-None.is) in
-    let a : l.k < length l.text = omega arith in
-    let b : l.k < length l.map = omega arith in
+    let s : Stays cut t i end = stays-first cut t i end c.loop-i-test.true none c.plain_end_of.ensures in
+    let o : i ≤ end = s.ordered in
+    let w : end ≤ length t = s.within in
+    let n : length run ≡ end - i = length-take-le (end - i) (drop i t) (rw length-drop (omega arith)) in
+    let m : i + length run ≡ end = omega arith in
+    let places = rw (← n) at s.places in
+    let q : l.k + length run - l.k ≡ length run = omega arith in
+    let b : length run ≤ length (drop l.k l.map) = rw length-drop (omega arith) in
+    let counts : c.count_up.new.map ≡ counted i (length run) = rw (q, length-take-le) at c.count_up.ensures in
     record {
       behind = omega arith;
       within = omega arith;
-      text = rw pushed (rw (kept_next, c.loop-i-test.true, none) at l.invariant.text);
-      map = rw pushed (rw (kept_next, c.loop-i-test.true, none) at l.invariant.map);
+      text = rw (c.store.ensures, m) (filled l.text run _ _ _ l.k (length run) refl (omega arith) s.bytes l.invariant.text);
+      map = rw (counts, m) (filled l.map (counted i (length run)) _ _ _ l.k (length run) (length-counted i (length run)) (omega arith) places l.invariant.map);
     }
 
 pub loop-i-preserved-in-Some : goal.loop-i-preserved-in-Some

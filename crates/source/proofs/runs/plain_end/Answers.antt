@@ -1,7 +1,11 @@
--- A run of plain bytes stays.
+-- A run of bytes that begin no continuation of either language stays. Assumes nothing.
 use Rattle.std.proofs.Common.{arith}
-use Rattle.source.proofs.Staying.{stays-run}
+use Rattle.source.specs.Joining.{any_cut}
+use Rattle.source.specs.Staying.{is_plain}
+use Rattle.source.proofs.Staying.{plain-any, stays-run}
 use Rattle.source.proofs.runs.plain_end.Goals as goal
 
 pub returns : goal.returns
-returns c = rw c.long_run_end.ensures.value (stays-run c.args.content.now c.args.from _ c.requires (omega arith))
+returns c =
+    let xs = c.args.content.now in
+    rw c.near_end.ensures.value (stays-run any_cut xs is_plain (plain-any xs) _ c.args.from c.requires (omega arith))
