@@ -15,7 +15,7 @@ use Rattle.ascii.proofs.Flags.{and_left, and_right}
 use Rattle.std.specs.List.{prefix_len}
 use Rattle.std.proofs.lemmas.List.Sums.{prefix_len_passes}
 use Rattle.ascii.specs.Text.{leading}
-use Rattle.ascii.proofs.Texts.{leading_le, leading_counts, leading_is, leading-more}
+use Rattle.ascii.proofs.Texts.{leading_le, leading_counts, leading-more}
 use borrow.Rule.Slice.PartMut.{put_mid}
 use Rattle.std.proofs.lemmas.Slice.{take-put_mid}
 use Rattle.std.specs.Prelude.{None}
@@ -23,10 +23,6 @@ use Rattle.lexer.specs.Continuation.{if_any, break_c, break_f}
 use Rattle.source.specs.Joining.{any_cut, byte_of, place_of}
 use Rattle.source.specs.Staying.{is_plain_c, is_plain_f, is_plain, counted, Stays}
 use Rattle.source.proofs.Kept.{kept_next}
-
--- a byte without the property, which the place has to be of, ends a run at its start
-pub leading-here : (p : ℕ → Bool) (xs : List ℕ) (i : ℕ) → i < length xs → p (get_or xs i 0) ≡ false → leading p (drop i xs) ≡ 0
-leading-here p xs i h e = leading_is p (drop i xs) 0 (omega arith) (λ k z. absurd (omega arith)) (λ z. rw (get_or-drop, add-zero) e)
 
 -- a byte that is no mark begins no continuation
 module _ (xs : List ℕ) (i : ℕ) where
@@ -58,7 +54,7 @@ module _ (cut : List ℕ → ℕ) (xs : List ℕ) where
       record { ordered = omega arith; within = h; bytes = rw n refl; places = rw n refl }
 
   -- one byte before
-  pub stays-first : (from end : ℕ) → from < length xs → if_any (cut (drop from xs)) ≡ None → Stays cut xs (from + 1) end → Stays cut xs from end
+  stays-first : (from end : ℕ) → from < length xs → if_any (cut (drop from xs)) ≡ None → Stays cut xs (from + 1) end → Stays cut xs from end
   unfolding counted
   stays-first from end h e s =
       let o = s.ordered in
@@ -72,15 +68,22 @@ module _ (cut : List ℕ → ℕ) (xs : List ℕ) where
       }
 
   -- a run of bytes that begin no continuation stays
-  pub stays-run : (p : ℕ → Bool) → ((i : ℕ) → p (get_or xs i 0) ≡ true → cut (drop i xs) ≡ 0) → (n from : ℕ) → from ≤ length xs → n ≤ leading p (drop from xs)
+  run-stays : (p : ℕ → Bool) → ((i : ℕ) → p (get_or xs i 0) ≡ true → cut (drop i xs) ≡ 0) → (n from : ℕ) → from ≤ length xs → n ≤ leading p (drop from xs)
       → Stays cut xs from (from + n)
-  stays-run p free zero from h e = rw add-zero (stays-none from h)
-  stays-run p free (suc n) from h e =
+  run-stays p free zero from h e = rw add-zero (stays-none from h)
+  run-stays p free (suc n) from h e =
       let m : from + 1 + n ≡ from + suc n = omega arith in
       let l : from < length xs = omega (arith, leading_le p (drop from xs), length-drop from xs) in
       let z : 0 < prefix_len p (drop from xs) = omega (arith, leading_counts p (drop from xs)) in
       let b : p (get_or xs from 0) ≡ true = rw (get_or-drop, add-zero) at (prefix_len_passes p (drop from xs) 0 0 z) in
-      rw m at (stays-first from (from + 1 + n) l (ap if_any (free from b)) (stays-run p free n (from + 1) (omega arith) (omega (arith, leading-more p xs from l b))))
+      rw m at (stays-first from (from + 1 + n) l (ap if_any (free from b)) (run-stays p free n (from + 1) (omega arith) (omega (arith, leading-more p xs from l b))))
+
+  -- the same by its end
+  pub stays-run : (p : ℕ → Bool) → ((i : ℕ) → p (get_or xs i 0) ≡ true → cut (drop i xs) ≡ 0) → (from end : ℕ) → from ≤ length xs → from ≤ end → end ≤ from + leading p (drop from xs)
+      → Stays cut xs from end
+  stays-run p free from end h o e =
+      let m : from + (end - from) ≡ end = omega arith in
+      rw m at (run-stays p free (end - from) from h (omega arith))
 
 -- places to come: one more, none
 module _ (i k n : ℕ) where

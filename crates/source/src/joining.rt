@@ -55,16 +55,23 @@ pub fn join_into(language: Language, line: &[u8], text: &mut [u8], map: &mut [u1
     let mut i = 0;
     let mut k = 0;
     let lines = lines_of(language, line);
-    // by runs and breaks
+    // by a block or a byte that stays, or a break that goes
     while i < line.len() {
+        let run = &line[i..runs::block_end_of(language, line, i)];
+        if run.len() != 0 {
+            text[k..k + run.len()].copy_from_slice(run);
+            runs::count_up(&mut map[k..k + run.len()], i);
+            k += run.len();
+            i += run.len();
+            continue;
+        }
         match cut_at(language, &lines, i) {
             Some(gone) => i += gone,
             None => {
-                let run = &line[i..runs::plain_end_of(language, line, i + 1)];
-                runs::store(run, &mut text[k..k + run.len()]);
-                runs::count_up(&mut map[k..k + run.len()], i);
-                k += run.len();
-                i += run.len();
+                text[k] = line[i];
+                map[k] = i as u16;
+                k += 1;
+                i += 1;
             }
         }
     }
@@ -82,16 +89,22 @@ pub fn copy_into(content: &[u8], copy: &mut [u8]) -> usize
     let mut i = 0;
     let mut k = 0;
     let mut lines = Lines::unsought(content);
-    // by runs and breaks
+    // by a block or a byte that stays, or a break that goes
     while i < content.len() {
+        let run = &content[i..runs::plain_end(content, i)];
+        if run.len() != 0 {
+            copy[k..k + run.len()].copy_from_slice(run);
+            k += run.len();
+            i += run.len();
+            continue;
+        }
         lines.seek_at(i);
         match any_cut_at(&lines, i) {
             Some(gone) => i += gone,
             None => {
-                let run = &content[i..runs::plain_end(content, i + 1)];
-                runs::store(run, &mut copy[k..k + run.len()]);
-                k += run.len();
-                i += run.len();
+                copy[k] = content[i];
+                k += 1;
+                i += 1;
             }
         }
     }

@@ -41,47 +41,37 @@ impl ByteSet for Plain {
     }
 }
 
-// The end of the run of a set's bytes that starts at a place. Where continuations stand close the very next byte mostly ends it, and no sixteen are asked.
-fn near_end<S: ByteSet>(text: &[u8], from: usize) -> usize
-    requires { from ≤ length text.now }
-    ensures value { result ≡ from + leading S.holds (drop from text.now) }
-    ensures lower_bound { (from ≤ result) × (result ≤ length text.now) }
+// The end of a run of a set's bytes, where it is worth a block: sixteen or more that start at a sixteenth place. Else the place itself. Where continuations stand
+// close together next to nothing is lost by this question, and a short run is sooner kept byte by byte.
+fn block_end<S: ByteSet>(text: &[u8], at: usize) -> usize
+    requires { at ≤ length text.now }
+    ensures value { result ≤ at + leading S.holds (drop at text.now) }
+    ensures lower_bound { (at ≤ result) × (result ≤ length text.now) }
 {
-    if from < text.len() && !S::has(text[from]) {
-        return from;
+    if at % 16 != 0 {
+        return at;
     }
-    ascii::long_run_end::<S>(text, from)
+    let end = ascii::long_run_end::<S>(text, at);
+    if end - at < 16 { at } else { end }
 }
 
-// Behind a place, the end of the bytes that begin no continuation of a language.
-pub fn plain_end_of(language: Language, line: &[u8], from: usize) -> usize
-    requires { from ≤ length line.now }
-    ensures { Stays (cut_of language) line.now from result }
+// The same, of the bytes that begin no continuation of a language.
+pub fn block_end_of(language: Language, line: &[u8], at: usize) -> usize
+    requires { at ≤ length line.now }
+    ensures { Stays (cut_of language) line.now at result }
 {
     match language {
-        Language::C => near_end::<PlainC>(line, from),
-        Language::FortranFree | Language::FortranFixed => near_end::<PlainF>(line, from),
+        Language::C => block_end::<PlainC>(line, at),
+        Language::FortranFree | Language::FortranFixed => block_end::<PlainF>(line, at),
     }
 }
 
 // The same of either language.
-pub fn plain_end(content: &[u8], from: usize) -> usize
-    requires { from ≤ length content.now }
-    ensures { Stays any_cut content.now from result }
+pub fn plain_end(content: &[u8], at: usize) -> usize
+    requires { at ≤ length content.now }
+    ensures { Stays any_cut content.now at result }
 {
-    near_end::<Plain>(content, from)
-}
-
-// Stores a run into as many slots. A single byte is no call: with a break in every gap each run is one.
-pub fn store(run: &[u8], slots: &mut [u8])
-    requires { length run.now ≡ length slots.old }
-    ensures { slots.new ≡ run.now }
-{
-    if run.len() == 1 {
-        slots[0] = run[0];
-        return;
-    }
-    slots.copy_from_slice(run);
+    block_end::<Plain>(content, at)
 }
 
 // The places of a run, from its first on. Two counters and nothing else: the compiler makes vector code of such a loop.

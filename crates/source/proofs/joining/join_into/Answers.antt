@@ -1,26 +1,26 @@
--- A byte that stays is written with the run behind it, and their places; a continuation is passed over. Assumes nothing.
-use Rattle.std.proofs.Common.{◌≡◌, refl, ◌+◌, ◌-◌, ◌∙◌, ◌<◌, ◌≤◌, sym, arith, take, drop, length, length-drop, add-one}
+-- A run that stays is written with its places, by a block or a byte; a continuation is passed over. Assumes nothing.
+use Rattle.std.proofs.Common.{◌≡◌, refl, ◌+◌, ◌-◌, ◌∙◌, ◌<◌, ◌≤◌, sym, arith, rules, take, drop, length, length-drop, add-one}
 use Rattle.std.proofs.Math.Seq.{length-take-le, take-suc-set}
 use Rattle.std.proofs.lemmas.List.{append-nil}
+use Rattle.ascii.proofs.Slots.{pushed}
 use Rattle.source.specs.Joining.{cut_of, joined_text, joined_map}
 use Rattle.source.specs.Staying.{counted, Stays}
-use Rattle.source.proofs.Kept.{kept-jump, kept-end}
-use Rattle.source.proofs.Staying.{stays-first, length-counted, filled}
+use Rattle.source.proofs.Kept.{kept_next, kept-jump, kept-end}
+use Rattle.source.proofs.Staying.{length-counted, filled}
 use Rattle.source.proofs.joining.join_into.Goals as goal
 
-pub loop-i-preserved : goal.loop-i-preserved
-loop-i-preserved c =
+pub loop-i-preserved-then-run-ne0 : goal.loop-i-preserved-then-run-ne0
+loop-i-preserved-then-run-ne0 c =
     let l = c.loop-i in
     let t = c.args.line.now in
     let i = l.i in
-    let end = c.plain_end_of.result in
-    let cut = cut_of c.args.language in
+    let end = c.block_end_of.result in
     let run = take (end - i) (drop i t) in
-    let none = rw c.lines_of-lines.ensures at (sym c.cut_at.ensures.value ∙ c.in-None.is) in
-    let s : Stays cut t i end = stays-first cut t i end c.loop-i-test.true none c.plain_end_of.ensures in
+    let s : Stays (cut_of c.args.language) t i end = c.block_end_of.ensures in
     let o : i ≤ end = s.ordered in
     let w : end ≤ length t = s.within in
     let n : length run ≡ end - i = length-take-le (end - i) (drop i t) (rw length-drop (omega arith)) in
+    let part : c.copy_from_slice.new.self ≡ run = search rules in
     let m : i + length run ≡ end = omega arith in
     let places = rw (← n) at s.places in
     let q : l.k + length run - l.k ≡ length run = omega arith in
@@ -29,8 +29,21 @@ loop-i-preserved c =
     record {
       behind = omega arith;
       within = omega arith;
-      text = rw (c.store.ensures, m) (filled l.text run _ _ _ l.k (length run) refl (omega arith) s.bytes l.invariant.text);
+      text = rw (part, m) (filled l.text run _ _ _ l.k (length run) refl (omega arith) s.bytes l.invariant.text);
       map = rw (counts, m) (filled l.map (counted i (length run)) _ _ _ l.k (length run) (length-counted i (length run)) (omega arith) places l.invariant.map);
+    }
+
+pub loop-i-preserved : goal.loop-i-preserved
+loop-i-preserved c =
+    let l = c.loop-i in
+    let none = rw c.lines_of-lines.ensures at (sym c.cut_at.ensures.value ∙ c.in-None.is) in
+    let a : l.k < length l.text = omega arith in
+    let b : l.k < length l.map = omega arith in
+    record {
+      behind = omega arith;
+      within = omega arith;
+      text = rw pushed (rw (kept_next, c.loop-i-test.true, none) at l.invariant.text);
+      map = rw pushed (rw (kept_next, c.loop-i-test.true, none) at l.invariant.map);
     }
 
 pub loop-i-preserved-in-Some : goal.loop-i-preserved-in-Some

@@ -1,5 +1,4 @@
 -- A run of bytes that begin no continuation of either language stays. Assumes nothing.
-use Rattle.std.proofs.Common.{arith}
 use Rattle.source.specs.Joining.{any_cut}
 use Rattle.source.specs.Staying.{is_plain}
 use Rattle.source.proofs.Staying.{plain-any, stays-run}
@@ -8,4 +7,5 @@ use Rattle.source.proofs.runs.plain_end.Goals as goal
 pub returns : goal.returns
 returns c =
     let xs = c.args.content.now in
-    rw c.near_end.ensures.value (stays-run any_cut xs is_plain (plain-any xs) _ c.args.from c.requires (omega arith))
+    let e = c.block_end.ensures in
+    stays-run any_cut xs is_plain (plain-any xs) c.args.at c.block_end.result c.requires e.lower_bound.0 e.value
