@@ -21,7 +21,7 @@ use Rattle.std.proofs.lemmas.Slice.{take-put_mid}
 use Rattle.std.specs.Prelude.{None}
 use Rattle.lexer.specs.Continuation.{if_any, break_c, break_f}
 use Rattle.source.specs.Joining.{any_cut, byte_of, place_of}
-use Rattle.source.specs.Staying.{is_plain_c, is_plain_f, is_plain, counted, Stays}
+use Rattle.source.specs.Staying.{BeginsNone, is_plain_c, is_plain_f, is_plain, counted, Stays}
 use Rattle.source.proofs.Kept.{kept_next}
 
 -- a byte that is no mark begins no continuation
@@ -29,22 +29,31 @@ module _ (xs : List ℕ) (i : ℕ) where
   first-is : get_or (drop i xs) 0 0 ≡ get_or xs i 0
   first-is = get_or-drop i xs 0 0 ∙ rw add-zero refl
 
-  pub plain-c : is_plain_c (get_or xs i 0) ≡ true → break_c (drop i xs) ≡ 0
+  plain-c : is_plain_c (get_or xs i 0) ≡ true → break_c (drop i xs) ≡ 0
   unfolding break_c
   plain-c e =
       let p : eqb (get_or (drop i xs) 0 0) 92 ≡ false = rw first-is (not-true (eqb (get_or xs i 0) 92) e) in
       rw p refl
 
-  pub plain-f : is_plain_f (get_or xs i 0) ≡ true → break_f (drop i xs) ≡ 0
+  plain-f : is_plain_f (get_or xs i 0) ≡ true → break_f (drop i xs) ≡ 0
   unfolding break_f
   plain-f e =
       let p : eqb (get_or (drop i xs) 0 0) 38 ≡ false = rw first-is (not-true (eqb (get_or xs i 0) 38) e) in
       rw p refl
 
-  pub plain-any : is_plain (get_or xs i 0) ≡ true → any_cut (drop i xs) ≡ 0
+  plain-any : is_plain (get_or xs i 0) ≡ true → any_cut (drop i xs) ≡ 0
   plain-any e =
       let b = get_or xs i 0 in
       rw (plain-c (and_left (is_plain_c b) (is_plain_f b) e), plain-f (and_right (is_plain_c b) (is_plain_f b) e)) refl
+
+pub none-c : BeginsNone is_plain_c break_c
+none-c = record { none = plain-c }
+
+pub none-f : BeginsNone is_plain_f break_f
+none-f = record { none = plain-f }
+
+pub none-any : BeginsNone is_plain any_cut
+none-any = record { none = plain-any }
 
 module _ (cut : List ℕ → ℕ) (xs : List ℕ) where
   stays-none : (from : ℕ) → from ≤ length xs → Stays cut xs from from
@@ -68,7 +77,7 @@ module _ (cut : List ℕ → ℕ) (xs : List ℕ) where
       }
 
   -- a run of bytes that begin no continuation stays
-  run-stays : (p : ℕ → Bool) → ((i : ℕ) → p (get_or xs i 0) ≡ true → cut (drop i xs) ≡ 0) → (n from : ℕ) → from ≤ length xs → n ≤ leading p (drop from xs)
+  run-stays : (p : ℕ → Bool) → BeginsNone p cut → (n from : ℕ) → from ≤ length xs → n ≤ leading p (drop from xs)
       → Stays cut xs from (from + n)
   run-stays p free zero from h e = rw add-zero (stays-none from h)
   run-stays p free (suc n) from h e =
@@ -76,10 +85,10 @@ module _ (cut : List ℕ → ℕ) (xs : List ℕ) where
       let l : from < length xs = omega (arith, leading_le p (drop from xs), length-drop from xs) in
       let z : 0 < prefix_len p (drop from xs) = omega (arith, leading_counts p (drop from xs)) in
       let b : p (get_or xs from 0) ≡ true = rw (get_or-drop, add-zero) at (prefix_len_passes p (drop from xs) 0 0 z) in
-      rw m at (stays-first from (from + 1 + n) l (ap if_any (free from b)) (run-stays p free n (from + 1) (omega arith) (omega (arith, leading-more p xs from l b))))
+      rw m at (stays-first from (from + 1 + n) l (ap if_any (free.none xs from b)) (run-stays p free n (from + 1) (omega arith) (omega (arith, leading-more p xs from l b))))
 
   -- the same by its end
-  pub stays-run : (p : ℕ → Bool) → ((i : ℕ) → p (get_or xs i 0) ≡ true → cut (drop i xs) ≡ 0) → (from end : ℕ) → from ≤ length xs → from ≤ end → end ≤ from + leading p (drop from xs)
+  pub stays-run : (p : ℕ → Bool) → BeginsNone p cut → (from end : ℕ) → from ≤ length xs → from ≤ end → end ≤ from + leading p (drop from xs)
       → Stays cut xs from end
   stays-run p free from end h o e =
       let m : from + (end - from) ≡ end = omega arith in

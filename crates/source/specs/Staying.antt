@@ -1,5 +1,5 @@
 -- A run of bytes that all stay, with their places.
-use Rattle.std.specs.Prelude.{ℕ, zero, suc, ◌-◌, ◌≤◌, ◌≡◌, Bool, not, ◌&&◌, eqb, List, [], ◌∷◌, ◌++◌, map, length, take, drop}
+use Rattle.std.specs.Prelude.{ℕ, zero, suc, ◌-◌, ◌≤◌, ◌≡◌, Bool, true, not, ◌&&◌, eqb, List, [], ◌∷◌, ◌++◌, map, length, take, drop, get_or}
 use Rattle.source.specs.Joining.{Kept, kept_from, byte_of, place_of}
 
 -- a byte that begins no continuation of C, of Fortran, of either
@@ -11,6 +11,10 @@ is_plain_f b = not (eqb b 38)
 
 abbrev pub is_plain : ℕ → Bool
 is_plain b = is_plain_c b && is_plain_f b
+
+-- no byte with a property begins what is cut
+pub record BeginsNone (p : ℕ → Bool) (cut : List ℕ → ℕ) : Type 0 where
+  pub none : (xs : List ℕ) (i : ℕ) → p (get_or xs i 0) ≡ true → cut (drop i xs) ≡ 0
 
 -- what stays from a place on, by the rule of what is cut
 abbrev pub staying : (List ℕ → ℕ) → List ℕ → ℕ → List Kept

@@ -3,8 +3,11 @@ ghost use Rattle.std.specs.Prelude.{◌≡◌, ◌+◌, ◌<◌, ◌≤◌, leng
 ghost use Rattle.refusal.specs.Answer.{max_length};
 ghost use Rattle.lexer.specs.Continuation.{if_any};
 ghost use Rattle.source.specs.Joining.{cut_of, joined_text, joined_map, any_cut, collapsed};
+ghost use Rattle.source.specs.Staying.{BeginsNone};
 
 use crate::runs;
+use crate::runs::{Plain, PlainC, PlainF};
+use ascii::sets::ByteSet;
 use lexer::continuation::Lines;
 use lexer::{Language, continuation};
 
@@ -42,11 +45,13 @@ fn lines_of<'a>(language: Language, line: &'a [u8]) -> Lines<'a>
     }
 }
 
-// Joins a line that fits, once over: the text and the map stand at the front of their slots, and the text's length is returned.
-pub fn join_into(language: Language, line: &[u8], text: &mut [u8], map: &mut [u16]) -> usize
+// Joins by the continuations of a language, which none of a set's bytes begins. Apart from `join_into`, so that the compiler makes a loop of its own for C and for
+// Fortran, and no byte asks for the language.
+fn join_by<S: ByteSet>(language: Language, line: &[u8], text: &mut [u8], map: &mut [u16]) -> usize
     requires line_len_bound { length line.now ≤ max_length }
     requires line_in_bounds { length line.now ≤ length text.old }
     requires line_in_bounds_2 { length line.now < length map.old }
+    requires set { BeginsNone S.holds (cut_of language) }
     ensures within { result ≤ length line.now }
     ensures count { result ≡ length (joined_text language line.now) }
     ensures text { take result text.new ≡ joined_text language line.now }
@@ -57,7 +62,7 @@ pub fn join_into(language: Language, line: &[u8], text: &mut [u8], map: &mut [u1
     let lines = lines_of(language, line);
     // by a block or a byte that stays, or a break that goes
     while i < line.len() {
-        let run = &line[i..runs::block_end_of(language, line, i)];
+        let run = &line[i..runs::block_end::<S>(line, i)];
         if run.len() != 0 {
             text[k..k + run.len()].copy_from_slice(run);
             runs::count_up(&mut map[k..k + run.len()], i);
@@ -79,6 +84,24 @@ pub fn join_into(language: Language, line: &[u8], text: &mut [u8], map: &mut [u1
     k
 }
 
+// Joins a line that fits, once over: the text and the map stand at the front of their slots, and the text's length is returned.
+pub fn join_into(language: Language, line: &[u8], text: &mut [u8], map: &mut [u16]) -> usize
+    requires line_len_bound { length line.now ≤ max_length }
+    requires line_in_bounds { length line.now ≤ length text.old }
+    requires line_in_bounds_2 { length line.now < length map.old }
+    ensures within { result ≤ length line.now }
+    ensures count { result ≡ length (joined_text language line.now) }
+    ensures text { take result text.new ≡ joined_text language line.now }
+    ensures map { take (result + 1) map.new ≡ joined_map language line.now }
+{
+    match language {
+        Language::C => join_by::<PlainC>(language, line, text, map),
+        Language::FortranFree | Language::FortranFixed => {
+            join_by::<PlainF>(language, line, text, map)
+        }
+    }
+}
+
 // Copies a content that fits without the continuations of either language, once over; the copy's length is returned.
 pub fn copy_into(content: &[u8], copy: &mut [u8]) -> usize
     requires { length content.now ≤ length copy.old }
@@ -91,7 +114,7 @@ pub fn copy_into(content: &[u8], copy: &mut [u8]) -> usize
     let mut lines = Lines::unsought(content);
     // by a block or a byte that stays, or a break that goes
     while i < content.len() {
-        let run = &content[i..runs::plain_end(content, i)];
+        let run = &content[i..runs::block_end::<Plain>(content, i)];
         if run.len() != 0 {
             copy[k..k + run.len()].copy_from_slice(run);
             k += run.len();

@@ -2,20 +2,18 @@
 ghost use Rattle.std.specs.Prelude.{◌≡◌, ◌+◌, ◌≤◌, length, drop};
 ghost use Rattle.ascii.specs.Text.{leading};
 ghost use Rattle.refusal.specs.Answer.{max_length};
-ghost use Rattle.source.specs.Joining.{cut_of, any_cut};
-ghost use Rattle.source.specs.Staying.{is_plain_c, is_plain_f, is_plain, counted, Stays};
+ghost use Rattle.source.specs.Staying.{is_plain_c, is_plain_f, is_plain, counted};
 
 use ascii::sets::ByteSet;
-use lexer::Language;
 
 // All but `\`.
-struct PlainC;
+pub struct PlainC;
 
 // All but `&`.
-struct PlainF;
+pub struct PlainF;
 
 // All but `\` and `&`.
-struct Plain;
+pub struct Plain;
 
 impl ByteSet for PlainC {
     ghost holds = { is_plain_c };
@@ -43,7 +41,7 @@ impl ByteSet for Plain {
 
 // The end of a run of a set's bytes, where it is worth a block: sixteen or more that start at a sixteenth place. Else the place itself. Where continuations stand
 // close together next to nothing is lost by this question, and a short run is sooner kept byte by byte.
-fn block_end<S: ByteSet>(text: &[u8], at: usize) -> usize
+pub fn block_end<S: ByteSet>(text: &[u8], at: usize) -> usize
     requires { at ≤ length text.now }
     ensures value { result ≤ at + leading S.holds (drop at text.now) }
     ensures lower_bound { (at ≤ result) × (result ≤ length text.now) }
@@ -53,25 +51,6 @@ fn block_end<S: ByteSet>(text: &[u8], at: usize) -> usize
     }
     let end = ascii::long_run_end::<S>(text, at);
     if end - at < 16 { at } else { end }
-}
-
-// The same, of the bytes that begin no continuation of a language.
-pub fn block_end_of(language: Language, line: &[u8], at: usize) -> usize
-    requires { at ≤ length line.now }
-    ensures { Stays (cut_of language) line.now at result }
-{
-    match language {
-        Language::C => block_end::<PlainC>(line, at),
-        Language::FortranFree | Language::FortranFixed => block_end::<PlainF>(line, at),
-    }
-}
-
-// The same of either language.
-pub fn plain_end(content: &[u8], at: usize) -> usize
-    requires { at ≤ length content.now }
-    ensures { Stays any_cut content.now at result }
-{
-    block_end::<Plain>(content, at)
 }
 
 // The places of a run, from its first on. Two counters and nothing else: the compiler makes vector code of such a loop.

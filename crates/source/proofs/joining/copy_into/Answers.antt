@@ -4,9 +4,9 @@ use Rattle.std.proofs.Math.Seq.{length-take-le}
 use Rattle.std.proofs.lemmas.List.{append-nil}
 use Rattle.ascii.proofs.Slots.{pushed}
 use Rattle.source.specs.Joining.{any_cut, collapsed}
-use Rattle.source.specs.Staying.{Stays}
+use Rattle.source.specs.Staying.{is_plain, Stays}
 use Rattle.source.proofs.Kept.{kept_next, kept-jump, kept-end}
-use Rattle.source.proofs.Staying.{filled}
+use Rattle.source.proofs.Staying.{none-any, stays-run, filled}
 use Rattle.source.proofs.joining.copy_into.Goals as goal
 
 pub loop-i-preserved-then-run-ne0 : goal.loop-i-preserved-then-run-ne0
@@ -14,10 +14,10 @@ loop-i-preserved-then-run-ne0 c =
     let l = c.loop-i in
     let t = c.args.content.now in
     let i = l.i in
-    let end = c.plain_end.result in
+    let end = c.block_end.result in
     let run = take (end - i) (drop i t) in
-    let s : Stays any_cut t i end = c.plain_end.ensures in
-    let o : i ≤ end = s.ordered in
+    let e = c.block_end.ensures in
+    let s : Stays any_cut t i end = stays-run any_cut t is_plain none-any i end l.invariant.within e.lower_bound.0 e.value in
     let w : end ≤ length t = s.within in
     let n : length run ≡ end - i = length-take-le (end - i) (drop i t) (rw length-drop (omega arith)) in
     let part : c.copy_from_slice.new.self ≡ run = search rules in

@@ -2,10 +2,10 @@
 use Rattle.std.proofs.Common.{◌≡◌, ◌++◌, ◌-◌, ◌≤◌, length, take, map}
 use Rattle.source.specs.Joining.{cut_of, byte_of, place_of}
 use Rattle.source.specs.Staying.{staying}
-use Rattle.source.proofs.joining.join_into.Given as goal
+use Rattle.source.proofs.joining.join_by.Given as goal
 
 abbrev pub invariant-loop-i : goal.invariant-loop-i
-invariant-loop-i l =
+invariant-loop-i g l =
     record {
       behind : l.k ≤ l.i;
       within : l.i ≤ length l.line;
@@ -14,4 +14,4 @@ invariant-loop-i l =
     }
 
 abbrev pub decreases-loop-i : goal.decreases-loop-i
-decreases-loop-i l = length l.line - l.i
+decreases-loop-i g l = length l.line - l.i
