@@ -3,23 +3,33 @@
 use mathlib.Core.Path.{◌≡◌, refl, sym, ap, ◌∙◌}
 use mathlib.Core.Bool.{Bool, true, false, true≢false}
 use mathlib.Core.List.{List, [], ◌∷◌}
-use Prim.Native.Nat.{ℕ, suc, ◌+◌, ◌*◌, ◌<◌, ◌≤◌}
+use Prim.Native.Nat.{ℕ, zero, suc, ◌+◌, ◌-◌, ◌*◌, ◌<◌, ◌≤◌}
 use native.Mathlib.Numerals.{add-one}
 use native.Mathlib.Omega.{arith}
-use lib.ListN.{length, get_or, drop, length-drop, drop_of_length-le}
+use lib.ListN.{length, get_or, take, drop, length-drop}
 use lib.Seq.{drop-cons}
 use lib.Dec.{eqb}
 use borrow.Author.Tests.{eqb-true, eqb-false, eq-eqb}
 use Rattle.std.proofs.lemmas.List.{get_or-drop}
 use Rattle.std.proofs.lemmas.Bool.Decides.{nat_tests}
 use Rattle.ascii.specs.Ascii.{fold}
-use Rattle.ascii.specs.Text.{same_by, comparing}
+use Rattle.ascii.specs.declared.Range.{Range}
+use Rattle.ascii.specs.Text.{part, same_by, comparing}
 use Rattle.ascii.proofs.Flags.{by_cases, and_left, and_right}
-use Rattle.rulebook.specs.Order.{rank_from, rank}
+use Rattle.rulebook.specs.Order.{rank_from, rank, Shared}
 
 -- nothing but bytes
 abbrev pub Bytes : List ℕ → Type 0
 Bytes bs = (i : ℕ) → get_or bs i 0 < 256
+
+bytes-take : (n : ℕ) (bs : List ℕ) → Bytes bs → Bytes (take n bs)
+bytes-take zero bs h i = omega arith
+bytes-take (suc n) [] h i = omega arith
+bytes-take (suc n) (b ∷ bs) h zero = h 0
+bytes-take (suc n) (b ∷ bs) h (suc i) = bytes-take n bs (λ j. h (suc j)) i
+
+pub bytes-part : (bs : List ℕ) (r : Range) → Bytes bs → Bytes (part bs r)
+bytes-part bs r h = bytes-take (r.end - r.start) (drop r.start bs) (λ i. rw get_or-drop (h (r.start + i)))
 
 fold-byte : (b : ℕ) → b < 256 → fold b < 256
 fold-byte b h = grind (arith, nat_tests)
@@ -91,15 +101,37 @@ module _ (a b : List ℕ) (i : ℕ) (long : length a ≡ length b) where
         (higher (g.high * 256 + fold (get_or a i 0)) (g.high * 256 + fold (get_or b i 0)) (drop (i + 1) a) (drop (i + 1) b) (omega arith)
         (omega (arith, length-drop (i + 1) a, length-drop (i + 1) b)) (λ j. rw get_or-drop (s (i + 1 + j))))
 
-  -- whether they are equal, by the bytes from there on
-  pub same-next : i < length a → fold (get_or a i 0) ≡ fold (get_or b i 0) → same_by fold (drop i a) (drop i b) ≡ same_by fold (drop (i + 1) a) (drop (i + 1) b)
-  unfolding same_by
-  same-next l e =
-      let k : i < length b = omega arith in
-      rw (add-one, drop-cons a i 0, drop-cons b i 0, eq-eqb _ _ e)
+-- all bytes agree
+pub same-whole : (a b : List ℕ) → length a ≡ length b → ((i : ℕ) → i < length a → fold (get_or a i 0) ≡ fold (get_or b i 0)) → same_by fold a b ≡ true
+unfolding same_by
+same-whole [] [] e s = refl
+same-whole [] (y ∷ ys) e s = absurd (omega arith)
+same-whole (x ∷ xs) [] e s = absurd (omega arith)
+same-whole (x ∷ xs) (y ∷ ys) e s = rw (eq-eqb _ _ (s 0 (omega arith))) (same-whole xs ys (omega arith) (λ i l. s (suc i) (omega arith)))
 
-  pub same-end : length a ≤ i → same_by fold (drop i a) (drop i b) ≡ true
-  unfolding same_by
-  same-end l =
-      let k : length b ≤ i = omega arith in
-      rw (drop_of_length-le a l, drop_of_length-le b k)
+-- the leading bytes that names share
+pub shared-none : (a b : List ℕ) → Shared a b 0
+shared-none a b = record { within = omega arith; long = λ l. absurd (omega arith); same = λ i l. absurd (omega arith) }
+
+pub shared-fewer : {a b : List ℕ} {n : ℕ} → Shared a b n → (m : ℕ) → m ≤ n → Shared a b m
+shared-fewer s m l = record { within = omega (arith, s.within); long = λ o. s.long (omega arith); same = λ i h. s.same i (omega arith) }
+
+pub shared-next : {a b : List ℕ} {n : ℕ} → Shared a b n → length a ≡ length b → n < length a → fold (get_or a n 0) ≡ fold (get_or b n 0) → Shared a b (n + 1)
+shared-next {a} {b} {n} s e l h = record {
+  within = omega arith;
+  long = λ o. e;
+  same = λ i g.
+      by_cases (eqb i n)
+      (λ t. let q : i ≡ n = eqb-true _ _ t in rw q h)
+      (λ t. s.same i (omega (arith, eqb-false i n t)));
+}
+
+agreeing : (a b : List ℕ) (n : ℕ) → length a ≡ length b → n ≤ length a → ((i : ℕ) → i < n → fold (get_or a i 0) ≡ fold (get_or b i 0)) → Agree a b n
+agreeing a b zero e w s = record { high = 1; left = refl; right = refl }
+agreeing a b (suc n) e w s =
+    rw (add-one n) at (agree-next a b n e (omega arith) (agreeing a b n e (omega arith) (λ i l. s i (omega arith))) (s n (omega arith)))
+
+-- the byte behind them tells which is before the other
+pub first-less : (a b : List ℕ) (n : ℕ) → length a ≡ length b → n < length a → ((i : ℕ) → i < n → fold (get_or a i 0) ≡ fold (get_or b i 0))
+    → Bytes a → fold (get_or a n 0) < fold (get_or b n 0) → rank a < rank b
+first-less a b n e w s = agree-less a b n e w (agreeing a b n e (omega arith) s)

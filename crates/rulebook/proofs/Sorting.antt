@@ -4,7 +4,7 @@ use mathlib.Core.Path.{◌≡◌, refl, sym, ap, ◌∙◌}
 use mathlib.Core.Bool.{Bool, true, false, cond}
 use Rattle.std.specs.Prelude.{Some, None}
 use mathlib.Core.List.{List}
-use Prim.Native.Nat.{ℕ, zero, suc, ◌+◌, ◌-◌, ◌<◌, ◌≤◌}
+use Prim.Native.Nat.{ℕ, zero, suc, ◌+◌, ◌-◌, ◌<◌, ◌≤◌, min}
 use native.Mathlib.Omega.{arith}
 use lib.ListN.{get_or}
 use lib.Dec.{eqb, ltb}
@@ -12,12 +12,13 @@ use borrow.Author.Tests.{eqb-true, eqb-false, ltb-true, ltb-false}
 use Rattle.ascii.specs.Ascii.{fold}
 use Rattle.ascii.specs.Text.{same_by, comparing}
 use Rattle.ascii.proofs.Flags.{by_cases}
-use Rattle.rulebook.specs.Book.{entries_from, place_after}
+use Rattle.rulebook.specs.Book.{entries_from, name_at, place_after}
 use Rattle.rulebook.specs.Check.{is_named}
-use Rattle.rulebook.specs.Order.{rank}
+use Rattle.rulebook.specs.Order.{rank, Shared}
 use Rattle.rulebook.specs.Index.{name_of, slot_of, last_named, number_told, place_told, name_told, Told, Sorted, Belongs, Inserted}
 use Rattle.rulebook.proofs.Repeating.{is_found}
-use Rattle.rulebook.proofs.Ranks.{same-rank, same-folded}
+use Rattle.rulebook.proofs.Ranks.{Bytes, bytes-part, same-rank, same-folded, shared-none, shared-fewer}
+use Rattle.rulebook.proofs.Between.{shared-between}
 use Rattle.rulebook.proofs.Indexing.{number-told, told-slot, place-told, name-told}
 use Rattle.rulebook.proofs.LastNamed.{named-last}
 
@@ -43,6 +44,16 @@ module _ (lead first : ℕ) (bs : List ℕ) where
       other : (k : ℕ) → k < suc n → (k ≡ m → ⊥) → same_by f (name_of lead first bs k) name ≡ false
       other k g ne = by_cases (same_by f (name_of lead first bs k) name) (λ t. absurd (ne (h k g t))) (λ t. t)
 
+  -- an entry in a part of the order shares leading bytes with a name
+  pub record End (slots name : List ℕ) (from to shared : ℕ) : Type 0 where
+    pub place : ℕ
+    pub from_on : from ≤ place
+    pub below : place < to
+    pub is : Shared (name_told lead first bs (get_or slots place 0)) name shared
+
+  bytes-told : Bytes bs → (slot : ℕ) → Bytes (name_told lead first bs slot)
+  bytes-told h slot = bytes-part bs (name_at lead (place_told first slot) bs) h
+
   module _ {n : ℕ} {slots : List ℕ} (s : Sorted lead first n bs slots) where
     -- the number of the name in a place of the order
     abbrev pub rank_at : ℕ → ℕ
@@ -60,6 +71,23 @@ module _ (lead first : ℕ) (bs : List ℕ) where
         by_cases (eqb i middle)
         (λ t. let q : i ≡ middle = eqb-true _ _ t in rw q h)
         (λ t. omega (arith, s.rising middle i (omega (arith, eqb-false i middle t)) l))
+
+    -- what entries at both ends share with a name an entry between them shares with it too
+    pub middle-shared : Bytes bs → (name : List ℕ) (low middle high low_shared high_shared : ℕ) → low ≤ middle → middle < high → high ≤ n
+        → (0 < low_shared → End slots name 0 low low_shared) → (0 < high_shared → End slots name high n high_shared)
+        → Shared (name_told lead first bs (get_or slots middle 0)) name (min low_shared high_shared)
+    middle-shared bytes name low middle high ls hs a b w p q =
+        by_cases (ltb 0 (min ls hs))
+        (λ t.
+        let o : 0 < min ls hs = ltb-true _ _ t in
+        let x = p (omega arith) in
+        let y = q (omega arith) in
+        shared-between _ _ _ name (min ls hs) o (shared-fewer x.is (min ls hs) (omega arith)) (shared-fewer y.is (min ls hs) (omega arith))
+        (bytes-told bytes (get_or slots middle 0)) (bytes-told bytes (get_or slots y.place 0))
+        (s.rising x.place middle (omega (arith, x.below)) (omega arith)) (s.rising middle y.place (omega (arith, y.from_on)) y.below) (min ls hs) (omega arith))
+        (λ t.
+        let z : min ls hs ≡ 0 = omega (arith, ltb-false 0 (min ls hs) t) in
+        rw z (shared-none _ name))
 
     module _ (few : n ≤ 255) where
       -- the name of the entry of a slot

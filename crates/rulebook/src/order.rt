@@ -1,8 +1,8 @@
 // The order of names, and an index in it.
-ghost use Rattle.std.specs.Prelude.{◌≡◌, ◌<◌, ◌≤◌, length};
+ghost use Rattle.std.specs.Prelude.{◌≡◌, ◌<◌, ◌≤◌, ℕ, length, get_or};
 ghost use Rattle.ascii.specs.Text.{comparing};
 ghost use Rattle.bookform.specs.Format.{lead_of};
-ghost use Rattle.rulebook.specs.Order.{Compared};
+ghost use Rattle.rulebook.specs.Order.{Compared, Shared, Differ};
 ghost use Rattle.rulebook.specs.Index.{last_named, SortedIn, Searched, Inserted};
 
 use crate::index::{FoundEntry, NameIndex, told};
@@ -13,40 +13,59 @@ use ascii::same_byte;
 use std::cmp::Ordering;
 
 // Which of two names comes first, case ignored: the shorter one, or of two as long the one with the lesser byte where they first differ. So
-// most names are told apart by their lengths.
-fn compare(a: &[u8], b: &[u8]) -> Ordering
-    ensures { Compared a.now b.now result }
+// most names are told apart by their lengths. Also in how many leading bytes two names as long agree; so many are known to, and not compared.
+fn compare_from(a: &[u8], b: &[u8], from: usize) -> (Ordering, usize)
+    requires { Shared a.now b.now from }
+    ensures order { Compared a.now b.now result.0 }
+    ensures shared { Shared a.now b.now result.1 }
+    ensures most { length a.now ≡ length b.now → result.1 < length a.now → Differ a.now b.now result.1 }
 {
     if a.len() < b.len() {
-        return Ordering::Less;
+        return (Ordering::Less, 0);
     }
     if a.len() > b.len() {
-        return Ordering::Greater;
+        return (Ordering::Greater, 0);
     }
-    for i in 0..a.len() {
+    for i in from..a.len() {
         if !same_byte(a[i], b[i], true) {
-            return fold(a[i]).cmp(&fold(b[i]));
+            return (fold(a[i]).cmp(&fold(b[i])), i);
         }
     }
-    Ordering::Equal
+    (Ordering::Equal, a.len())
 }
 
+// Nothing to run: that its items are bytes is known of a parameter that is a slice, not of a field.
+fn known_bytes(book: &[u8])
+    ensures { (i : ℕ) → get_or book.now i 0 < 256 }
+{}
+
 impl NameIndex {
-    // The place of an entry that has a name, case ignored, or else where in the order the name belongs.
+    // The place of an entry that has a name, case ignored, or else where in the order the name belongs. What the name shares with the entries at both
+    // ends of what is left it shares with all between them, so these bytes are not compared again.
     pub(crate) fn search(&self, listed: Listed, name: &[u8]) -> Result<usize, usize>
         requires room { listed.entries.count ≤ length self.now.slots }
         requires sorted { SortedIn listed.entries listed.book.now self.now }
         ensures { Searched listed.entry.entries listed.entry.book.now self.now name.now result }
     {
+        known_bytes(listed.book);
         let mut low = 0;
         let mut high = listed.entries.count;
+        let mut low_shared: usize = 0;
+        let mut high_shared: usize = 0;
         while low < high {
             let middle = (low + high) / 2;
             let (_, entry_name) = told(listed, self.slots[middle]);
-            match compare(entry_name, name) {
-                Ordering::Less => low = middle + 1,
+            let (order, shared) = compare_from(entry_name, name, low_shared.min(high_shared));
+            match order {
+                Ordering::Less => {
+                    low = middle + 1;
+                    low_shared = shared;
+                }
                 Ordering::Equal => return Ok(middle),
-                Ordering::Greater => high = middle,
+                Ordering::Greater => {
+                    high = middle;
+                    high_shared = shared;
+                }
             }
         }
         Err(low)
