@@ -30,7 +30,7 @@ module _ (low m high name : List ℕ) (c : ℕ) (some : 0 < c) (p : Shared low n
       (λ t.
       absurd (omega (
         arith,
-        first-less m low n (long ∙ sym (p.long some)) (omega (arith, p.within, p.long some, long)) (λ i h. s.same i h ∙ sym (p.same i (omega arith))) bytes
+        first-less 1 n m low (long ∙ sym (p.long some)) (omega (arith, p.within, p.long some, long)) (λ i h. s.same i h ∙ sym (p.same i (omega arith))) bytes
             (rw (p.same n l) (ltb-true _ _ t)),
       )))
       (λ t.
@@ -38,7 +38,7 @@ module _ (low m high name : List ℕ) (c : ℕ) (some : 0 < c) (p : Shared low n
       (λ u.
       absurd (omega (
         arith,
-        first-less high m n (q.long some ∙ sym long) (omega (arith, q.within)) (λ i h. q.same i (omega arith) ∙ sym (s.same i h)) high-bytes
+        first-less 1 n high m (q.long some ∙ sym long) (omega (arith, q.within)) (λ i h. q.same i (omega arith) ∙ sym (s.same i h)) high-bytes
             (rw (q.same n l) (ltb-true _ _ u)),
       )))
       (λ u. omega (arith, ltb-false (fold (get_or m n 0)) (fold (get_or name n 0)) t, ltb-false (fold (get_or name n 0)) (fold (get_or m n 0)) u)))

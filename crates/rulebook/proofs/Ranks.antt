@@ -1,13 +1,11 @@
--- The order of names: what two names agree in up to a byte, the byte where they first differ, and their lengths decide which comes first.
+-- The order of names: their lengths decide which comes first, or the byte in which they first differ. Also the leading bytes that two names share.
 -- By induction over the bytes. Assumes nothing.
-use mathlib.Core.Path.{◌≡◌, refl, sym, ap, ◌∙◌}
+use mathlib.Core.Path.{◌≡◌, refl, sym}
 use mathlib.Core.Bool.{Bool, true, false, true≢false}
 use mathlib.Core.List.{List, [], ◌∷◌}
 use Prim.Native.Nat.{ℕ, zero, suc, ◌+◌, ◌-◌, ◌*◌, ◌<◌, ◌≤◌}
-use native.Mathlib.Numerals.{add-one}
 use native.Mathlib.Omega.{arith}
-use lib.ListN.{length, get_or, take, drop, length-drop}
-use lib.Seq.{drop-cons}
+use lib.ListN.{length, get_or, take, drop}
 use lib.Dec.{eqb}
 use borrow.Author.Tests.{eqb-true, eqb-false, eq-eqb}
 use Rattle.std.proofs.lemmas.List.{get_or-drop}
@@ -16,7 +14,7 @@ use Rattle.ascii.specs.Ascii.{fold}
 use Rattle.ascii.specs.declared.Range.{Range}
 use Rattle.ascii.specs.Text.{part, same_by, comparing}
 use Rattle.ascii.proofs.Flags.{by_cases, and_left, and_right}
-use Rattle.rulebook.specs.Order.{rank_from, rank, Shared}
+use Rattle.rulebook.specs.Order.{rank_from, Shared}
 
 -- nothing but bytes
 abbrev pub Bytes : List ℕ → Type 0
@@ -73,33 +71,16 @@ same-folded false (x ∷ xs) (y ∷ ys) h =
     let e : x ≡ y = eqb-true x y (and_left (eqb x y) (same_by (comparing false) xs ys) h) in
     rw (e, eq-eqb (fold y) (fold y) refl) (same-folded false xs ys (and_right (eqb x y) (same_by (comparing false) xs ys) h))
 
--- the first i bytes of two names agree, case ignored: they are the digits of one number
-pub record Agree (a b : List ℕ) (i : ℕ) : Type 0 where
-  pub high : ℕ
-  pub left : rank a ≡ rank_from high (drop i a)
-  pub right : rank b ≡ rank_from high (drop i b)
-
-pub flipped : {a b : List ℕ} {i : ℕ} → Agree a b i → Agree b a i
-flipped g = record { high = g.high; left = g.right; right = g.left }
-
-rank-next : (h i : ℕ) (name : List ℕ) → i < length name → rank_from h (drop i name) ≡ rank_from (h * 256 + fold (get_or name i 0)) (drop (i + 1) name)
+-- the first byte in which names of one length differ tells which is before the other
+pub first-less : (h n : ℕ) (a b : List ℕ) → length a ≡ length b → n < length a → ((i : ℕ) → i < n → fold (get_or a i 0) ≡ fold (get_or b i 0))
+    → Bytes a → fold (get_or a n 0) < fold (get_or b n 0) → rank_from h a < rank_from h b
 unfolding rank_from
-rank-next h i name l = rw (add-one, drop-cons name i 0)
-
-module _ (a b : List ℕ) (i : ℕ) (long : length a ≡ length b) where
-  module _ (within : i < length a) (g : Agree a b i) where
-    pub agree-next : fold (get_or a i 0) ≡ fold (get_or b i 0) → Agree a b (i + 1)
-    agree-next e = record {
-      high = g.high * 256 + fold (get_or b i 0);
-      left = g.left ∙ rank-next g.high i a within ∙ ap (λ (x : ℕ). rank_from (g.high * 256 + x) (drop (i + 1) a)) e;
-      right = g.right ∙ rank-next g.high i b (omega arith);
-    }
-
-    pub agree-less : Bytes a → fold (get_or a i 0) < fold (get_or b i 0) → rank a < rank b
-    agree-less s l =
-        rw (g.left, g.right, rank-next g.high i a within, rank-next g.high i b (omega arith))
-        (higher (g.high * 256 + fold (get_or a i 0)) (g.high * 256 + fold (get_or b i 0)) (drop (i + 1) a) (drop (i + 1) b) (omega arith)
-        (omega (arith, length-drop (i + 1) a, length-drop (i + 1) b)) (λ j. rw get_or-drop (s (i + 1 + j))))
+first-less h n [] b e w s t l = absurd (omega arith)
+first-less h n (x ∷ xs) [] e w s t l = absurd (omega arith)
+first-less h zero (x ∷ xs) (y ∷ ys) e w s t l = higher (h * 256 + fold x) (h * 256 + fold y) xs ys (omega arith) (omega arith) (λ i. t (suc i))
+first-less h (suc n) (x ∷ xs) (y ∷ ys) e w s t l =
+    let q : fold x ≡ fold y = s 0 (omega arith) in
+    rw q (first-less (h * 256 + fold y) n xs ys (omega arith) (omega arith) (λ i k. s (suc i) (omega arith)) (λ i. t (suc i)) l)
 
 -- all bytes agree
 pub same-whole : (a b : List ℕ) → length a ≡ length b → ((i : ℕ) → i < length a → fold (get_or a i 0) ≡ fold (get_or b i 0)) → same_by fold a b ≡ true
@@ -125,13 +106,3 @@ shared-next {a} {b} {n} s e l h = record {
       (λ t. let q : i ≡ n = eqb-true _ _ t in rw q h)
       (λ t. s.same i (omega (arith, eqb-false i n t)));
 }
-
-agreeing : (a b : List ℕ) (n : ℕ) → length a ≡ length b → n ≤ length a → ((i : ℕ) → i < n → fold (get_or a i 0) ≡ fold (get_or b i 0)) → Agree a b n
-agreeing a b zero e w s = record { high = 1; left = refl; right = refl }
-agreeing a b (suc n) e w s =
-    rw (add-one n) at (agree-next a b n e (omega arith) (agreeing a b n e (omega arith) (λ i l. s i (omega arith))) (s n (omega arith)))
-
--- the byte behind them tells which is before the other
-pub first-less : (a b : List ℕ) (n : ℕ) → length a ≡ length b → n < length a → ((i : ℕ) → i < n → fold (get_or a i 0) ≡ fold (get_or b i 0))
-    → Bytes a → fold (get_or a n 0) < fold (get_or b n 0) → rank a < rank b
-first-less a b n e w s = agree-less a b n e w (agreeing a b n e (omega arith) s)

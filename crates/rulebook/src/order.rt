@@ -13,7 +13,8 @@ use ascii::same_byte;
 use std::cmp::Ordering;
 
 // Which of two names comes first, case ignored: the shorter one, or of two as long the one with the lesser byte where they first differ. So
-// most names are told apart by their lengths. Also in how many leading bytes two names as long agree; so many are known to, and not compared.
+// most names are told apart by their lengths. It also tells in how many leading bytes names of one length agree; those that are known to are not
+// compared.
 fn compare_from(a: &[u8], b: &[u8], from: usize) -> (Ordering, usize)
     requires { Shared a.now b.now from }
     ensures order { Compared a.now b.now result.0 }
@@ -40,8 +41,8 @@ fn known_bytes(book: &[u8])
 {}
 
 impl NameIndex {
-    // The place of an entry that has a name, case ignored, or else where in the order the name belongs. What the name shares with the entries at both
-    // ends of what is left it shares with all between them, so these bytes are not compared again.
+    // The place of an entry that has a name, case ignored, or else where in the order the name belongs. The leading bytes that the name shares with the
+    // entries at both ends of what is left it shares with all between them, so they are not compared again.
     pub(crate) fn search(&self, listed: Listed, name: &[u8]) -> Result<usize, usize>
         requires room { listed.entries.count ≤ length self.now.slots }
         requires sorted { SortedIn listed.entries listed.book.now self.now }

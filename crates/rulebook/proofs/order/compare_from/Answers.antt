@@ -21,9 +21,9 @@ returns-then-not-same_byte-clause-order c =
     let e = eqb-false _ _ (sym c.same_byte.ensures ∙ c.if-not-same_byte.true) in
     by_ranked _ _ _ c.cmp.result
     (ranked (fold (get_or a l.i 0)) (fold (get_or b l.i 0)) c.cmp.result (cc))
-    (λ o p. rw o (first-less a b l.i n (omega arith) l.invariant.same (λ i. omega (arith, c.type_inv.a i)) p))
+    (λ o p. rw o (first-less 1 l.i a b n (omega arith) l.invariant.same (λ i. omega (arith, c.type_inv.a i)) p))
     (λ o p. absurd (e p))
-    (λ o p. rw o (first-less b a l.i (sym n) (omega arith) (λ i h. sym (l.invariant.same i h)) (λ i. omega (arith, c.type_inv.b i)) p))
+    (λ o p. rw o (first-less 1 l.i b a (sym n) (omega arith) (λ i h. sym (l.invariant.same i h)) (λ i. omega (arith, c.type_inv.b i)) p))
 
 pub returns-clause-order : goal.returns-clause-order
 returns-clause-order c =
