@@ -27,9 +27,12 @@ fn compare_from(a: &[u8], b: &[u8], from: usize) -> (Ordering, usize)
     if a.len() > b.len() {
         return (Ordering::Greater, 0);
     }
-    for i in from..a.len() {
-        if !same_byte(a[i], b[i], true) {
-            return (fold(a[i]).cmp(&fold(b[i])), i);
+    // cut off, so that the loop counts one number alone
+    let a_rest = &a[from..];
+    let b_rest = &b[from..];
+    for i in 0..a_rest.len() {
+        if !same_byte(a_rest[i], b_rest[i], true) {
+            return (fold(a_rest[i]).cmp(&fold(b_rest[i])), from + i);
         }
     }
     (Ordering::Equal, a.len())
