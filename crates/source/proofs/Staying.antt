@@ -8,7 +8,7 @@ use mathlib.Core.Path.{◌≡◌, refl, sym, ap, ◌∙◌}
 use mathlib.Core.Bool.{Bool, true, false}
 use mathlib.Core.List.{List, [], ◌∷◌, ◌++◌, map, append_assoc}
 use lib.ListN.{length, take, drop, get_or, length-drop}
-use lib.Seq.{drop-cons, get_or-drop}
+use lib.Seq.{drop-cons, get_or-drop, take-suc}
 use lib.Dec.{eqb}
 use borrow.Author.Tests.{not-true}
 use Rattle.ascii.proofs.Flags.{and_left, and_right}
@@ -63,7 +63,7 @@ module _ (cut : List ℕ → ℕ) (xs : List ℕ) where
       record { ordered = omega arith; within = h; bytes = rw n refl; places = rw n refl }
 
   -- one byte before
-  stays-first : (from end : ℕ) → from < length xs → if_any (cut (drop from xs)) ≡ None → Stays cut xs (from + 1) end → Stays cut xs from end
+  pub stays-first : (from end : ℕ) → from < length xs → if_any (cut (drop from xs)) ≡ None → Stays cut xs (from + 1) end → Stays cut xs from end
   unfolding counted
   stays-first from end h e s =
       let o = s.ordered in
@@ -112,6 +112,36 @@ pub length-counted : (at n : ℕ) → length (counted at n) ≡ n
 unfolding counted
 length-counted at zero = refl
 length-counted at (suc n) = ap suc (length-counted (suc at) n)
+
+counted-more : (at n : ℕ) → counted at (suc n) ≡ counted at n ++ ((at + n) ∷ [])
+unfolding counted
+counted-more at zero = rw add-zero refl
+counted-more at (suc n) =
+    let m : suc at + n ≡ at + suc n = omega arith in
+    ap (λ (r : List ℕ). at ∷ r) (rw m at (counted-more (suc at) n))
+
+-- a run of no byte
+pub none-run : (from : ℕ) (xs : List ℕ) → (take (from - from) (drop from xs) ≡ []) × (counted from (from - from) ≡ [])
+unfolding counted
+none-run from xs =
+    let n : from - from ≡ 0 = omega arith in
+    (rw n refl, rw n refl)
+
+-- a run with one byte more, and with its place
+module _ (from i : ℕ) (o : from ≤ i) where
+  suc-of : i + 1 - from ≡ suc (i - from)
+  suc-of = omega arith
+
+  pub more-bytes : (xs : List ℕ) → i < length xs → take (i + 1 - from) (drop from xs) ≡ take (i - from) (drop from xs) ++ (get_or xs i 0 ∷ [])
+  more-bytes xs h =
+      let g : get_or (drop from xs) (i - from) 0 ≡ get_or xs i 0 = get_or-drop from xs (i - from) 0 ∙ (let m : from + (i - from) ≡ i = omega arith in rw m refl) in
+      let l : i - from < length (drop from xs) = simp length-drop (omega arith) in
+      rw suc-of (take-suc (drop from xs) (i - from) 0 l ∙ rw g refl)
+
+  pub more-places : counted from (i + 1 - from) ≡ counted from (i - from) ++ (i ∷ [])
+  more-places =
+      let m : from + (i - from) ≡ i = omega arith in
+      rw suc-of (rw m at (counted-more from (i - from)))
 
 -- slots that are filled from the front: n put in at k are what came next, and what is still to come is behind them
 pub filled : {A : Type 0} (slots part to_come behind whole : List A) (k n : ℕ) → length part ≡ n → k ≤ length slots → to_come ≡ part ++ behind → take k slots ++ to_come ≡ whole

@@ -6,7 +6,7 @@ ghost use Rattle.source.specs.Joining.{cut_of, joined_text, joined_map, any_cut,
 ghost use Rattle.source.specs.Staying.{BeginsNone};
 
 use crate::runs;
-use crate::runs::{Plain, PlainC, PlainF};
+use crate::runs::{PlainC, PlainF};
 use ascii::sets::ByteSet;
 use lexer::continuation::Lines;
 use lexer::{Language, continuation};
@@ -60,14 +60,12 @@ fn join_by<S: ByteSet>(language: Language, line: &[u8], text: &mut [u8], map: &m
     let mut i = 0;
     let mut k = 0;
     let lines = lines_of(language, line);
-    // by a block or a byte that stays, or a break that goes
+    // by a run that stays, or a byte that may begin a break
     while i < line.len() {
-        let run = &line[i..runs::block_end::<S>(line, i)];
-        if run.len() != 0 {
-            text[k..k + run.len()].copy_from_slice(run);
-            runs::count_up(&mut map[k..k + run.len()], i);
-            k += run.len();
-            i += run.len();
+        if S::has(line[i]) {
+            let end = runs::keep::<S>(line, i, text, map, k);
+            k += end - i;
+            i = end;
             continue;
         }
         match cut_at(language, &lines, i) {
@@ -112,22 +110,16 @@ pub fn copy_into(content: &[u8], copy: &mut [u8]) -> usize
     let mut i = 0;
     let mut k = 0;
     let mut lines = Lines::unsought(content);
-    // by a block or a byte that stays, or a break that goes
+    // by runs and breaks
     while i < content.len() {
-        let run = &content[i..runs::block_end::<Plain>(content, i)];
-        if run.len() != 0 {
-            copy[k..k + run.len()].copy_from_slice(run);
-            k += run.len();
-            i += run.len();
-            continue;
-        }
         lines.seek_at(i);
         match any_cut_at(&lines, i) {
             Some(gone) => i += gone,
             None => {
-                copy[k] = content[i];
-                k += 1;
-                i += 1;
+                let run = &content[i..runs::plain_end(content, i + 1)];
+                copy[k..k + run.len()].copy_from_slice(run);
+                k += run.len();
+                i += run.len();
             }
         }
     }

@@ -1,8 +1,9 @@
 // Runs of a line or a content that no continuation begins in.
-ghost use Rattle.std.specs.Prelude.{◌≡◌, ◌+◌, ◌≤◌, length, drop};
+ghost use Rattle.std.specs.Prelude.{◌≡◌, true, ◌+◌, ◌-◌, ◌<◌, ◌≤◌, ◌++◌, length, take, drop, get_or};
 ghost use Rattle.ascii.specs.Text.{leading};
 ghost use Rattle.refusal.specs.Answer.{max_length};
-ghost use Rattle.source.specs.Staying.{is_plain_c, is_plain_f, is_plain, counted};
+ghost use Rattle.source.specs.Joining.{any_cut};
+ghost use Rattle.source.specs.Staying.{is_plain_c, is_plain_f, is_plain, counted, Stays};
 
 use ascii::sets::ByteSet;
 
@@ -39,22 +40,30 @@ impl ByteSet for Plain {
     }
 }
 
-// The end of a run of a set's bytes, where it is worth a block: sixteen or more that start at a sixteenth place. Else the place itself. Where continuations stand
-// close together next to nothing is lost by this question, and a short run is sooner kept byte by byte.
-pub fn block_end<S: ByteSet>(text: &[u8], at: usize) -> usize
-    requires { at ≤ length text.now }
-    ensures value { result ≤ at + leading S.holds (drop at text.now) }
-    ensures lower_bound { (at ≤ result) × (result ≤ length text.now) }
+// Behind a place, the end of the bytes that begin no continuation of either language.
+pub fn plain_end(content: &[u8], from: usize) -> usize
+    requires { from ≤ length content.now }
+    ensures { Stays any_cut content.now from result }
 {
-    if at % 16 != 0 {
-        return at;
+    ascii::long_run_end::<Plain>(content, from)
+}
+
+// Whether a run goes on for sixteen bytes, by one branch for all. Only the speed hangs on the answer: a shorter run is sooner kept byte by byte.
+fn is_long<S: ByteSet>(line: &[u8], from: usize) -> bool
+    requires { from ≤ length line.now }
+{
+    if line.len() - from < 16 {
+        return false;
     }
-    let end = ascii::long_run_end::<S>(text, at);
-    if end - at < 16 { at } else { end }
+    let mut all = true;
+    for b in &line[from..from + 16] {
+        all = all & S::has(*b);
+    }
+    all
 }
 
 // The places of a run, from its first on. Two counters and nothing else: the compiler makes vector code of such a loop.
-pub fn count_up(map: &mut [u16], from: usize)
+fn count_up(map: &mut [u16], from: usize)
     requires { from + length map.old ≤ max_length }
     ensures { map.new ≡ counted from (length map.old) }
 {
@@ -65,4 +74,57 @@ pub fn count_up(map: &mut [u16], from: usize)
         i += 1;
         k += 1;
     }
+}
+
+// Keeps the run of a set's bytes that starts at a place: the bytes and their places go into the slots from one on. The end of the run is returned.
+pub fn keep<S: ByteSet>(
+    line: &[u8],
+    from: usize,
+    text: &mut [u8],
+    map: &mut [u16],
+    at: usize,
+) -> usize
+    requires first { (from < length line.now) × (S.holds (get_or line.now from 0) ≡ true) }
+    requires room { (at ≤ from) × ((length line.now ≤ length text.old) × (length line.now ≤ length map.old)) }
+    requires line_len_bound { length line.now ≤ max_length }
+    ensures within { (from < result) × (result ≤ length line.now) }
+    ensures run { result ≤ from + leading S.holds (drop from line.now) }
+    ensures text { take (at + (result - from)) text.new ≡ take at text.old ++ take (result - from) (drop from line.now) }
+    ensures map { take (at + (result - from)) map.new ≡ take at map.old ++ counted from (result - from) }
+{
+    if !is_long::<S>(line, from) {
+        return keep_bytes::<S>(line, from, text, map, at);
+    }
+    let end = ascii::long_run_end::<S>(line, from);
+    let next = at + (end - from);
+    text[at..next].copy_from_slice(&line[from..end]);
+    count_up(&mut map[at..next], from);
+    end
+}
+
+// The same byte by byte.
+fn keep_bytes<S: ByteSet>(
+    line: &[u8],
+    from: usize,
+    text: &mut [u8],
+    map: &mut [u16],
+    at: usize,
+) -> usize
+    requires first { (from < length line.now) × (S.holds (get_or line.now from 0) ≡ true) }
+    requires room { (at ≤ from) × ((length line.now ≤ length text.old) × (length line.now ≤ length map.old)) }
+    requires line_len_bound { length line.now ≤ max_length }
+    ensures within { (from < result) × (result ≤ length line.now) }
+    ensures run { result ≤ from + leading S.holds (drop from line.now) }
+    ensures text { take (at + (result - from)) text.new ≡ take at text.old ++ take (result - from) (drop from line.now) }
+    ensures map { take (at + (result - from)) map.new ≡ take at map.old ++ counted from (result - from) }
+{
+    let mut i = from;
+    let mut k = at;
+    while i < line.len() && S::has(line[i]) {
+        text[k] = line[i];
+        map[k] = i as u16;
+        i += 1;
+        k += 1;
+    }
+    i
 }

@@ -1,23 +1,23 @@
--- A run that stays is copied, by a block or a byte; a continuation is passed over. Assumes nothing.
-use Rattle.std.proofs.Common.{◌≡◌, ◌<◌, ◌+◌, ◌-◌, ◌∙◌, ◌≤◌, sym, refl, arith, rules, take, drop, length, length-drop}
+-- A byte that stays is copied with the run behind it; a continuation is passed over.
+use Rattle.std.proofs.Common.{◌≡◌, ◌+◌, ◌-◌, ◌∙◌, ◌≤◌, sym, refl, arith, rules, take, drop, length, length-drop}
 use Rattle.std.proofs.Math.Seq.{length-take-le}
 use Rattle.std.proofs.lemmas.List.{append-nil}
-use Rattle.ascii.proofs.Slots.{pushed}
 use Rattle.source.specs.Joining.{any_cut, collapsed}
-use Rattle.source.specs.Staying.{is_plain, Stays}
-use Rattle.source.proofs.Kept.{kept_next, kept-jump, kept-end}
-use Rattle.source.proofs.Staying.{none-any, stays-run, filled}
+use Rattle.source.specs.Staying.{Stays}
+use Rattle.source.proofs.Kept.{kept-jump, kept-end}
+use Rattle.source.proofs.Staying.{stays-first, filled}
 use Rattle.source.proofs.joining.copy_into.Goals as goal
 
-pub loop-i-preserved-then-run-ne0 : goal.loop-i-preserved-then-run-ne0
-loop-i-preserved-then-run-ne0 c =
-    let l = c.loop-i in
+pub loop-i-preserved : goal.loop-i-preserved
+loop-i-preserved c =
     let t = c.args.content.now in
-    let i = l.i in
-    let end = c.block_end.result in
+    let i = c.loop-i.i in
+    let end = c.plain_end.result in
     let run = take (end - i) (drop i t) in
-    let e = c.block_end.ensures in
-    let s : Stays any_cut t i end = stays-run any_cut t is_plain none-any i end l.invariant.within e.lower_bound.0 e.value in
+    let same = c.seek_at.ensures ∙ c.loop-i.invariant.text in
+    let none = rw same at (sym c.any_cut_at.ensures.value ∙ c.in-None.is) in
+    let s : Stays any_cut t i end = stays-first any_cut t i end c.loop-i-test.true none c.plain_end.ensures in
+    let o : i ≤ end = s.ordered in
     let w : end ≤ length t = s.within in
     let n : length run ≡ end - i = length-take-le (end - i) (drop i t) (rw length-drop (omega arith)) in
     let part : c.copy_from_slice.new.self ≡ run = search rules in
@@ -25,20 +25,7 @@ loop-i-preserved-then-run-ne0 c =
     record {
       behind = omega arith;
       within = omega arith;
-      copy = rw (part, m) (filled l.copy run _ _ _ l.k (length run) refl (omega arith) s.bytes l.invariant.copy);
-      text = l.invariant.text;
-    }
-
-pub loop-i-preserved : goal.loop-i-preserved
-loop-i-preserved c =
-    let l = c.loop-i in
-    let same = c.seek_at.ensures ∙ l.invariant.text in
-    let none = rw same at (sym c.any_cut_at.ensures.value ∙ c.in-None.is) in
-    let a : l.k < length l.copy = omega arith in
-    record {
-      behind = omega arith;
-      within = omega arith;
-      copy = rw pushed (rw (kept_next, c.loop-i-test.true, none) at l.invariant.copy);
+      copy = rw (part, m) (filled c.loop-i.copy run _ _ _ c.loop-i.k (length run) refl (omega arith) s.bytes c.loop-i.invariant.copy);
       text = same;
     }
 

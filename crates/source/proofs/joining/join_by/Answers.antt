@@ -1,36 +1,25 @@
 -- A run that stays is written with its places, by a block or a byte; a continuation is passed over. Assumes nothing.
-use Rattle.std.proofs.Common.{◌≡◌, refl, ◌+◌, ◌-◌, ◌∙◌, ◌<◌, ◌≤◌, sym, arith, rules, take, drop, length, length-drop, add-one}
+use Rattle.std.proofs.Common.{◌∙◌, ◌<◌, ◌≤◌, sym, arith, length, add-one}
 use Rattle.std.proofs.Math.Seq.{length-take-le, take-suc-set}
-use Rattle.std.proofs.lemmas.List.{append-nil}
+use Rattle.std.proofs.lemmas.List.{append-nil, append_assoc}
 use Rattle.ascii.proofs.Slots.{pushed}
 use Rattle.source.specs.Joining.{cut_of, joined_text, joined_map}
-use Rattle.source.specs.Staying.{counted, Stays}
+use Rattle.source.specs.Staying.{Stays}
 use Rattle.source.proofs.Kept.{kept_next, kept-jump, kept-end}
-use Rattle.source.proofs.Staying.{stays-run, length-counted, filled}
+use Rattle.source.proofs.Staying.{stays-run}
 use Rattle.source.proofs.joining.join_by.Goals as goal
 
-pub loop-i-preserved-then-run-ne0 : goal.loop-i-preserved-then-run-ne0
-loop-i-preserved-then-run-ne0 g c =
+pub loop-i-preserved-then-has : goal.loop-i-preserved-then-has
+loop-i-preserved-then-has g c =
     let l = c.loop-i in
-    let t = c.args.line.now in
-    let i = l.i in
-    let end = c.block_end.result in
-    let run = take (end - i) (drop i t) in
-    let e = c.block_end.ensures in
-    let s : Stays (cut_of c.args.language) t i end = stays-run (cut_of c.args.language) t g.S.ByteSet.holds c.requires.set i end l.invariant.within e.lower_bound.0 e.value in
-    let w : end ≤ length t = s.within in
-    let n : length run ≡ end - i = length-take-le (end - i) (drop i t) (rw length-drop (omega arith)) in
-    let part : c.copy_from_slice.new.self ≡ run = search rules in
-    let m : i + length run ≡ end = omega arith in
-    let places = rw (← n) at s.places in
-    let q : l.k + length run - l.k ≡ length run = omega arith in
-    let b : length run ≤ length (drop l.k l.map) = rw length-drop (omega arith) in
-    let counts : c.count_up.new.map ≡ counted i (length run) = rw (q, length-take-le) at c.count_up.ensures in
+    let e = c.keep-end.ensures in
+    let cut = cut_of c.args.language in
+    let s : Stays cut c.args.line.now l.i c.keep-end.result = stays-run cut c.args.line.now g.S.ByteSet.holds c.requires.set l.i c.keep-end.result l.invariant.within (omega arith) e.run in
     record {
       behind = omega arith;
       within = omega arith;
-      text = rw (part, m) (filled l.text run _ _ _ l.k (length run) refl (omega arith) s.bytes l.invariant.text);
-      map = rw (counts, m) (filled l.map (counted i (length run)) _ _ _ l.k (length run) (length-counted i (length run)) (omega arith) places l.invariant.map);
+      text = rw (e.text, append_assoc, ← s.bytes) l.invariant.text;
+      map = rw (e.map, append_assoc, ← s.places) l.invariant.map;
     }
 
 pub loop-i-preserved : goal.loop-i-preserved
