@@ -7,9 +7,10 @@ use native.Mathlib.Omega.{arith}
 use mathlib.Core.Path.{◌≡◌, refl, sym, ap, ◌∙◌}
 use mathlib.Core.Bool.{Bool, true, false}
 use mathlib.Core.List.{List, [], ◌∷◌, ◌++◌, map, append_assoc}
-use lib.ListN.{length, take, drop, get_or, length-drop}
+use lib.ListN.{set, length, take, drop, get_or, length-drop}
 use lib.Seq.{drop-cons, get_or-drop, take-suc}
 use lib.Dec.{eqb}
+use Rattle.ascii.proofs.Slots.{pushed}
 use borrow.Author.Tests.{not-true}
 use Rattle.ascii.proofs.Flags.{and_left, and_right}
 use Rattle.std.specs.List.{prefix_len}
@@ -119,6 +120,20 @@ counted-more at zero = rw add-zero refl
 counted-more at (suc n) =
     let m : suc at + n ≡ at + suc n = omega arith in
     ap (λ (r : List ℕ). at ∷ r) (rw m at (counted-more (suc at) n))
+
+-- a byte put in at a place and a run behind it are one run, and so are their places
+module _ (slots done : List ℕ) (at from end : ℕ) (h : at < length slots) (o : from < end) where
+  next-of : at + (end - from) ≡ at + 1 + (end - (from + 1))
+  next-of = omega arith
+
+  pub byte-before : (xs : List ℕ) → from < length xs → take (at + 1 + (end - (from + 1))) done ≡ take (at + 1) (set slots at (get_or xs from 0)) ++ take (end - (from + 1)) (drop (from + 1) xs)
+      → take (at + (end - from)) done ≡ take at slots ++ take (end - from) (drop from xs)
+  byte-before xs b e =
+      let n : end - from ≡ suc (end - (from + 1)) = omega arith in
+      rw (next-of, e, pushed, n, drop-cons xs from 0, ← add-one from) refl
+
+  pub place-before : take (at + 1 + (end - (from + 1))) done ≡ take (at + 1) (set slots at from) ++ counted (from + 1) (end - (from + 1)) → take (at + (end - from)) done ≡ take at slots ++ counted from (end - from)
+  place-before e = rw (next-of, e, pushed, counted-next from from end o) refl
 
 -- a run of no byte
 pub none-run : (from : ℕ) (xs : List ℕ) → (take (from - from) (drop from xs) ≡ []) × (counted from (from - from) ≡ [])

@@ -60,21 +60,14 @@ fn join_by<S: ByteSet>(language: Language, line: &[u8], text: &mut [u8], map: &m
     let mut i = 0;
     let mut k = 0;
     let lines = lines_of(language, line);
-    // by a run that stays, or a byte that may begin a break
+    // by runs and breaks
     while i < line.len() {
-        if S::has(line[i]) {
-            let end = runs::keep::<S>(line, i, text, map, k);
-            k += end - i;
-            i = end;
-            continue;
-        }
         match cut_at(language, &lines, i) {
             Some(gone) => i += gone,
             None => {
-                text[k] = line[i];
-                map[k] = i as u16;
-                k += 1;
-                i += 1;
+                let end = runs::keep::<S>(line, i, text, map, k);
+                k += end - i;
+                i = end;
             }
         }
     }

@@ -76,7 +76,8 @@ fn count_up(map: &mut [u16], from: usize)
     }
 }
 
-// Keeps the run of a set's bytes that starts at a place: the bytes and their places go into the slots from one on. The end of the run is returned.
+// Keeps a byte and the run of a set's bytes behind it: the bytes and their places go into the slots from one on. The end of the run is returned. Where
+// continuations stand close together the next byte is mostly no more of the run, and is asked first.
 pub fn keep<S: ByteSet>(
     line: &[u8],
     from: usize,
@@ -84,17 +85,43 @@ pub fn keep<S: ByteSet>(
     map: &mut [u16],
     at: usize,
 ) -> usize
-    requires first { (from < length line.now) × (S.holds (get_or line.now from 0) ≡ true) }
     requires room { (at ≤ from) × ((length line.now ≤ length text.old) × (length line.now ≤ length map.old)) }
+    requires in_bounds { from < length line.now }
     requires line_len_bound { length line.now ≤ max_length }
     ensures within { (from < result) × (result ≤ length line.now) }
+    ensures run { result ≤ from + 1 + leading S.holds (drop (from + 1) line.now) }
+    ensures text { take (at + (result - from)) text.new ≡ take at text.old ++ take (result - from) (drop from line.now) }
+    ensures map { take (at + (result - from)) map.new ≡ take at map.old ++ counted from (result - from) }
+{
+    text[at] = line[from];
+    map[at] = from as u16;
+    let behind = from + 1;
+    if behind == line.len() || !S::has(line[behind]) {
+        return behind;
+    }
+    if is_long::<S>(line, behind) {
+        keep_block::<S>(line, behind, text, map, at + 1)
+    } else {
+        keep_bytes::<S>(line, behind, text, map, at + 1)
+    }
+}
+
+// Keeps a run by one copy of its bytes.
+fn keep_block<S: ByteSet>(
+    line: &[u8],
+    from: usize,
+    text: &mut [u8],
+    map: &mut [u16],
+    at: usize,
+) -> usize
+    requires room { (at ≤ from) × ((length line.now ≤ length text.old) × (length line.now ≤ length map.old)) }
+    requires in_bounds { from ≤ length line.now }
+    requires line_len_bound { length line.now ≤ max_length }
+    ensures within { (from ≤ result) × (result ≤ length line.now) }
     ensures run { result ≤ from + leading S.holds (drop from line.now) }
     ensures text { take (at + (result - from)) text.new ≡ take at text.old ++ take (result - from) (drop from line.now) }
     ensures map { take (at + (result - from)) map.new ≡ take at map.old ++ counted from (result - from) }
 {
-    if !is_long::<S>(line, from) {
-        return keep_bytes::<S>(line, from, text, map, at);
-    }
     let end = ascii::long_run_end::<S>(line, from);
     let next = at + (end - from);
     text[at..next].copy_from_slice(&line[from..end]);
@@ -102,7 +129,7 @@ pub fn keep<S: ByteSet>(
     end
 }
 
-// The same byte by byte.
+// Keeps a run byte by byte.
 fn keep_bytes<S: ByteSet>(
     line: &[u8],
     from: usize,
@@ -110,10 +137,10 @@ fn keep_bytes<S: ByteSet>(
     map: &mut [u16],
     at: usize,
 ) -> usize
-    requires first { (from < length line.now) × (S.holds (get_or line.now from 0) ≡ true) }
     requires room { (at ≤ from) × ((length line.now ≤ length text.old) × (length line.now ≤ length map.old)) }
+    requires in_bounds { from ≤ length line.now }
     requires line_len_bound { length line.now ≤ max_length }
-    ensures within { (from < result) × (result ≤ length line.now) }
+    ensures within { (from ≤ result) × (result ≤ length line.now) }
     ensures run { result ≤ from + leading S.holds (drop from line.now) }
     ensures text { take (at + (result - from)) text.new ≡ take at text.old ++ take (result - from) (drop from line.now) }
     ensures map { take (at + (result - from)) map.new ≡ take at map.old ++ counted from (result - from) }

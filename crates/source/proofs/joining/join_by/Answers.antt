@@ -1,38 +1,28 @@
--- A run that stays is written with its places, by a block or a byte; a continuation is passed over. Assumes nothing.
-use Rattle.std.proofs.Common.{◌∙◌, ◌<◌, ◌≤◌, sym, arith, length, add-one}
+-- A byte that stays is kept with the run behind it; a continuation is passed over. Assumes nothing.
+use Rattle.std.proofs.Common.{◌+◌, ◌∙◌, ◌<◌, ◌≤◌, sym, arith, length, add-one}
 use Rattle.std.proofs.Math.Seq.{length-take-le, take-suc-set}
 use Rattle.std.proofs.lemmas.List.{append-nil, append_assoc}
-use Rattle.ascii.proofs.Slots.{pushed}
 use Rattle.source.specs.Joining.{cut_of, joined_text, joined_map}
 use Rattle.source.specs.Staying.{Stays}
-use Rattle.source.proofs.Kept.{kept_next, kept-jump, kept-end}
-use Rattle.source.proofs.Staying.{stays-run}
+use Rattle.source.proofs.Kept.{kept-jump, kept-end}
+use Rattle.source.proofs.Staying.{stays-first, stays-run}
 use Rattle.source.proofs.joining.join_by.Goals as goal
 
-pub loop-i-preserved-then-has : goal.loop-i-preserved-then-has
-loop-i-preserved-then-has g c =
+pub loop-i-preserved : goal.loop-i-preserved
+loop-i-preserved g c =
     let l = c.loop-i in
+    let t = c.args.line.now in
     let e = c.keep-end.ensures in
+    let end = c.keep-end.result in
     let cut = cut_of c.args.language in
-    let s : Stays cut c.args.line.now l.i c.keep-end.result = stays-run cut c.args.line.now g.S.ByteSet.holds c.requires.set l.i c.keep-end.result l.invariant.within (omega arith) e.run in
+    let none = rw c.lines_of-lines.ensures at (sym c.cut_at.ensures.value ∙ c.in-None.is) in
+    let run : Stays cut t (l.i + 1) end = stays-run cut t g.S.ByteSet.holds c.requires.set (l.i + 1) end (omega arith) (omega arith) e.run in
+    let s : Stays cut t l.i end = stays-first cut t l.i end c.loop-i-test.true none run in
     record {
       behind = omega arith;
       within = omega arith;
       text = rw (e.text, append_assoc, ← s.bytes) l.invariant.text;
       map = rw (e.map, append_assoc, ← s.places) l.invariant.map;
-    }
-
-pub loop-i-preserved : goal.loop-i-preserved
-loop-i-preserved g c =
-    let l = c.loop-i in
-    let none = rw c.lines_of-lines.ensures at (sym c.cut_at.ensures.value ∙ c.in-None.is) in
-    let a : l.k < length l.text = omega arith in
-    let b : l.k < length l.map = omega arith in
-    record {
-      behind = omega arith;
-      within = omega arith;
-      text = rw pushed (rw (kept_next, c.loop-i-test.true, none) at l.invariant.text);
-      map = rw pushed (rw (kept_next, c.loop-i-test.true, none) at l.invariant.map);
     }
 
 pub loop-i-preserved-in-Some : goal.loop-i-preserved-in-Some
