@@ -1,9 +1,9 @@
 // Joining: each continuation goes, every other byte is kept with its physical place.
-ghost use Rattle.std.specs.Prelude.{◌≡◌, ◌+◌, ◌<◌, ◌≤◌, length, take, drop, IfSome};
+ghost use Rattle.std.specs.Prelude.{◌≡◌, ◌+◌, ◌<◌, ◌≤◌, ◌++◌, map as list_map, length, take, drop, IfSome};
 ghost use Rattle.refusal.specs.Answer.{max_length};
 ghost use Rattle.lexer.specs.Continuation.{if_any};
-ghost use Rattle.source.specs.Joining.{cut_of, joined_text, joined_map, any_cut, collapsed};
-ghost use Rattle.source.specs.Staying.{BeginsNone};
+ghost use Rattle.source.specs.Joining.{cut_of, byte_of, place_of, joined_text, joined_map, any_cut, collapsed};
+ghost use Rattle.source.specs.Staying.{BeginsNone, staying};
 
 use crate::runs;
 use crate::runs::{PlainC, PlainF};
@@ -45,6 +45,40 @@ fn lines_of<'a>(language: Language, line: &'a [u8]) -> Lines<'a>
     }
 }
 
+// Joins by bytes, from a place on until another: a byte that stays goes into the slots from one on with its place, a break goes. The next place and the next
+// slot are returned.
+fn join_bytes(
+    language: Language,
+    lines: &Lines<'_>,
+    from: usize,
+    stop: usize,
+    text: &mut [u8],
+    map: &mut [u16],
+    at: usize,
+) -> (usize, usize)
+    requires room { (at ≤ from) × ((length lines.now.text.now ≤ length text.old) × (length lines.now.text.now ≤ length map.old)) }
+    requires in_bounds { (from ≤ stop) × (stop ≤ length lines.now.text.now) }
+    requires line_len_bound { length lines.now.text.now ≤ max_length }
+    ensures within { (stop ≤ result.0) × ((result.0 ≤ length lines.now.text.now) × (result.1 ≤ result.0)) }
+    ensures text { take result.1 text.new ++ list_map byte_of (staying (cut_of language) lines.now.text.now result.0) ≡ take at text.old ++ list_map byte_of (staying (cut_of language) lines.now.text.now from) }
+    ensures map { take result.1 map.new ++ list_map place_of (staying (cut_of language) lines.now.text.now result.0) ≡ take at map.old ++ list_map place_of (staying (cut_of language) lines.now.text.now from) }
+{
+    let mut i = from;
+    let mut k = at;
+    while i < stop {
+        match cut_at(language, lines, i) {
+            Some(gone) => i += gone,
+            None => {
+                text[k] = lines.text[i];
+                map[k] = i as u16;
+                k += 1;
+                i += 1;
+            }
+        }
+    }
+    (i, k)
+}
+
 // Joins by the continuations of a language, which none of a set's bytes begins. Apart from `join_into`, so that the compiler makes a loop of its own for C and for
 // Fortran, and no byte asks for the language.
 fn join_by<S: ByteSet>(language: Language, line: &[u8], text: &mut [u8], map: &mut [u16]) -> usize
@@ -60,15 +94,17 @@ fn join_by<S: ByteSet>(language: Language, line: &[u8], text: &mut [u8], map: &m
     let mut i = 0;
     let mut k = 0;
     let lines = lines_of(language, line);
-    // by runs and breaks
+    // by a long run, or some bytes one by one
     while i < line.len() {
-        match cut_at(language, &lines, i) {
-            Some(gone) => i += gone,
-            None => {
-                let end = runs::keep::<S>(line, i, text, map, k);
-                k += end - i;
-                i = end;
-            }
+        if S::has(line[i]) && runs::is_long::<S>(line, i + 1) {
+            let end = runs::keep_block::<S>(line, i, text, map, k);
+            k += end - i;
+            i = end;
+        } else {
+            let stop = line.len().min(i + 32);
+            let (next, kept) = join_bytes(language, &lines, i, stop, text, map, k);
+            i = next;
+            k = kept;
         }
     }
     map[k] = line.len() as u16;

@@ -48,8 +48,8 @@ pub fn plain_end(content: &[u8], from: usize) -> usize
     ascii::long_run_end::<Plain>(content, from)
 }
 
-// Whether a run goes on for sixteen bytes, by one branch for all. Only the speed hangs on the answer: a shorter run is sooner kept byte by byte.
-fn is_long<S: ByteSet>(line: &[u8], from: usize) -> bool
+// Whether a run goes on for sixteen bytes, by one branch for all. Only the speed hangs on the answer: shorter ones are sooner kept byte by byte.
+pub fn is_long<S: ByteSet>(line: &[u8], from: usize) -> bool
     requires { from ≤ length line.now }
 {
     if line.len() - from < 16 {
@@ -76,38 +76,8 @@ fn count_up(map: &mut [u16], from: usize)
     }
 }
 
-// Keeps a byte and the run of a set's bytes behind it: the bytes and their places go into the slots from one on. The end of the run is returned. Where
-// continuations stand close together the next byte is mostly no more of the run, and is asked first.
-pub fn keep<S: ByteSet>(
-    line: &[u8],
-    from: usize,
-    text: &mut [u8],
-    map: &mut [u16],
-    at: usize,
-) -> usize
-    requires room { (at ≤ from) × ((length line.now ≤ length text.old) × (length line.now ≤ length map.old)) }
-    requires in_bounds { from < length line.now }
-    requires line_len_bound { length line.now ≤ max_length }
-    ensures within { (from < result) × (result ≤ length line.now) }
-    ensures run { result ≤ from + 1 + leading S.holds (drop (from + 1) line.now) }
-    ensures text { take (at + (result - from)) text.new ≡ take at text.old ++ take (result - from) (drop from line.now) }
-    ensures map { take (at + (result - from)) map.new ≡ take at map.old ++ counted from (result - from) }
-{
-    text[at] = line[from];
-    map[at] = from as u16;
-    let behind = from + 1;
-    if behind == line.len() || !S::has(line[behind]) {
-        return behind;
-    }
-    if is_long::<S>(line, behind) {
-        keep_block::<S>(line, behind, text, map, at + 1)
-    } else {
-        keep_bytes::<S>(line, behind, text, map, at + 1)
-    }
-}
-
-// Keeps a run by one copy of its bytes.
-fn keep_block<S: ByteSet>(
+// Keeps the run of a set's bytes that starts at a place as a block: its bytes and their places go into the slots from one on. The end of the run is returned.
+pub fn keep_block<S: ByteSet>(
     line: &[u8],
     from: usize,
     text: &mut [u8],
@@ -118,7 +88,7 @@ fn keep_block<S: ByteSet>(
     requires in_bounds { from ≤ length line.now }
     requires line_len_bound { length line.now ≤ max_length }
     ensures within { (from ≤ result) × (result ≤ length line.now) }
-    ensures run { result ≤ from + leading S.holds (drop from line.now) }
+    ensures run { result ≡ from + leading S.holds (drop from line.now) }
     ensures text { take (at + (result - from)) text.new ≡ take at text.old ++ take (result - from) (drop from line.now) }
     ensures map { take (at + (result - from)) map.new ≡ take at map.old ++ counted from (result - from) }
 {
@@ -127,31 +97,4 @@ fn keep_block<S: ByteSet>(
     text[at..next].copy_from_slice(&line[from..end]);
     count_up(&mut map[at..next], from);
     end
-}
-
-// Keeps a run byte by byte.
-fn keep_bytes<S: ByteSet>(
-    line: &[u8],
-    from: usize,
-    text: &mut [u8],
-    map: &mut [u16],
-    at: usize,
-) -> usize
-    requires room { (at ≤ from) × ((length line.now ≤ length text.old) × (length line.now ≤ length map.old)) }
-    requires in_bounds { from ≤ length line.now }
-    requires line_len_bound { length line.now ≤ max_length }
-    ensures within { (from ≤ result) × (result ≤ length line.now) }
-    ensures run { result ≤ from + leading S.holds (drop from line.now) }
-    ensures text { take (at + (result - from)) text.new ≡ take at text.old ++ take (result - from) (drop from line.now) }
-    ensures map { take (at + (result - from)) map.new ≡ take at map.old ++ counted from (result - from) }
-{
-    let mut i = from;
-    let mut k = at;
-    while i < line.len() && S::has(line[i]) {
-        text[k] = line[i];
-        map[k] = i as u16;
-        i += 1;
-        k += 1;
-    }
-    i
 }

@@ -1,23 +1,22 @@
 -- A byte that stays is kept with the run behind it; a continuation is passed over. Assumes nothing.
-use Rattle.std.proofs.Common.{◌+◌, ◌∙◌, ◌<◌, ◌≤◌, sym, arith, length, add-one}
+use Rattle.std.proofs.Common.{◌∙◌, ◌<◌, ◌≤◌, sym, arith, length, add-one}
 use Rattle.std.proofs.Math.Seq.{length-take-le, take-suc-set}
 use Rattle.std.proofs.lemmas.List.{append-nil, append_assoc}
+use Rattle.ascii.proofs.Texts.{leading-more}
 use Rattle.source.specs.Joining.{cut_of, joined_text, joined_map}
 use Rattle.source.specs.Staying.{Stays}
-use Rattle.source.proofs.Kept.{kept-jump, kept-end}
-use Rattle.source.proofs.Staying.{stays-first, stays-run}
+use Rattle.source.proofs.Kept.{kept-end}
+use Rattle.source.proofs.Staying.{stays-run}
 use Rattle.source.proofs.joining.join_by.Goals as goal
 
-pub loop-i-preserved : goal.loop-i-preserved
-loop-i-preserved g c =
+pub loop-i-preserved-then-is_long : goal.loop-i-preserved-then-is_long
+loop-i-preserved-then-is_long g c =
     let l = c.loop-i in
     let t = c.args.line.now in
-    let e = c.keep-end.ensures in
-    let end = c.keep-end.result in
+    let e = c.keep_block-end.ensures in
+    let end = c.keep_block-end.result in
     let cut = cut_of c.args.language in
-    let none = rw c.lines_of-lines.ensures at (sym c.cut_at.ensures.value ∙ c.in-None.is) in
-    let run : Stays cut t (l.i + 1) end = stays-run cut t g.S.ByteSet.holds c.requires.set (l.i + 1) end (omega arith) (omega arith) e.run in
-    let s : Stays cut t l.i end = stays-first cut t l.i end c.loop-i-test.true none run in
+    let s : Stays cut t l.i end = stays-run cut t g.S.ByteSet.holds c.requires.set l.i end l.invariant.within e.within.0 (omega (arith, e.run)) in
     record {
       behind = omega arith;
       within = omega arith;
@@ -25,17 +24,10 @@ loop-i-preserved g c =
       map = rw (e.map, append_assoc, ← s.places) l.invariant.map;
     }
 
-pub loop-i-preserved-in-Some : goal.loop-i-preserved-in-Some
-loop-i-preserved-in-Some g c =
-    let l = c.loop-i in
-    let cut = rw c.lines_of-lines.ensures at (sym c.cut_at.ensures.value ∙ c.in-Some.is) in
-    let fits = rw c.lines_of-lines.ensures at c.in-Some.ensures.within in
-    record {
-      behind = omega arith;
-      within = omega arith;
-      text = rw (← kept-jump, c.loop-i-test.true, cut) l.invariant.text;
-      map = rw (← kept-jump, c.loop-i-test.true, cut) l.invariant.map;
-    }
+pub loop-i-smaller-then-is_long : goal.loop-i-smaller-then-is_long
+loop-i-smaller-then-is_long g c =
+    let first = sym c.has.ensures ∙ c.if-has.true in
+    omega (arith, c.keep_block-end.ensures, leading-more g.S.ByteSet.holds c.args.line.now c.loop-i.i c.loop-i-test.true first)
 
 pub returns-clause-count : goal.returns-clause-count
 unfolding joined_text
