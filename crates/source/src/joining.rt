@@ -45,9 +45,22 @@ fn lines_of<'a>(language: Language, line: &'a [u8]) -> Lines<'a>
     }
 }
 
+// The same, where no byte of a set begins a continuation: such a byte is answered by one comparison.
+fn cut_but<S: ByteSet>(language: Language, lines: &Lines<'_>, at: usize) -> Option<usize>
+    requires in_bounds { at < length lines.now.text.now }
+    requires set { BeginsNone S.holds (cut_of language) }
+    ensures value { result ≡ if_any (cut_of language (drop at lines.now.text.now)) }
+    ensures within { IfSome result (λ n. at + n ≤ length lines.now.text.now) }
+{
+    if S::has(lines.text[at]) {
+        return None;
+    }
+    cut_at(language, lines, at)
+}
+
 // Joins by bytes, from a place on until another: a byte that stays goes into the slots from one on with its place, a break goes. The next place and the next
 // slot are returned.
-fn join_bytes(
+fn join_bytes<S: ByteSet>(
     language: Language,
     lines: &Lines<'_>,
     from: usize,
@@ -59,6 +72,7 @@ fn join_bytes(
     requires room { (at ≤ from) × ((length lines.now.text.now ≤ length text.old) × (length lines.now.text.now ≤ length map.old)) }
     requires in_bounds { (from ≤ stop) × (stop ≤ length lines.now.text.now) }
     requires line_len_bound { length lines.now.text.now ≤ max_length }
+    requires set { BeginsNone S.holds (cut_of language) }
     ensures within { (stop ≤ result.0) × ((result.0 ≤ length lines.now.text.now) × (result.1 ≤ result.0)) }
     ensures text { take result.1 text.new ++ list_map byte_of (staying (cut_of language) lines.now.text.now result.0) ≡ take at text.old ++ list_map byte_of (staying (cut_of language) lines.now.text.now from) }
     ensures map { take result.1 map.new ++ list_map place_of (staying (cut_of language) lines.now.text.now result.0) ≡ take at map.old ++ list_map place_of (staying (cut_of language) lines.now.text.now from) }
@@ -66,7 +80,7 @@ fn join_bytes(
     let mut i = from;
     let mut k = at;
     while i < stop {
-        match cut_at(language, lines, i) {
+        match cut_but::<S>(language, lines, i) {
             Some(gone) => i += gone,
             None => {
                 text[k] = lines.text[i];
@@ -102,7 +116,7 @@ fn join_by<S: ByteSet>(language: Language, line: &[u8], text: &mut [u8], map: &m
             i = end;
         } else {
             let stop = line.len().min(i + 32);
-            let (next, kept) = join_bytes(language, &lines, i, stop, text, map, k);
+            let (next, kept) = join_bytes::<S>(language, &lines, i, stop, text, map, k);
             i = next;
             k = kept;
         }

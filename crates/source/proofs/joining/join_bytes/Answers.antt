@@ -6,10 +6,10 @@ use Rattle.source.proofs.Kept.{kept_next, kept-jump}
 use Rattle.source.proofs.joining.join_bytes.Goals as goal
 
 pub loop-i-preserved : goal.loop-i-preserved
-loop-i-preserved c =
+loop-i-preserved g c =
     let l = c.loop-i in
     let h : l.i < length c.args.lines.now.text.now = omega arith in
-    let none = sym c.cut_at.ensures.value ∙ c.in-None.is in
+    let none = sym c.cut_but.ensures.value ∙ c.in-None.is in
     let a : l.k < length l.text = omega arith in
     let b : l.k < length l.map = omega arith in
     record {
@@ -20,10 +20,10 @@ loop-i-preserved c =
     }
 
 pub loop-i-preserved-in-Some : goal.loop-i-preserved-in-Some
-loop-i-preserved-in-Some c =
+loop-i-preserved-in-Some g c =
     let l = c.loop-i in
     let h : l.i < length c.args.lines.now.text.now = omega arith in
-    let cut = sym c.cut_at.ensures.value ∙ c.in-Some.is in
+    let cut = sym c.cut_but.ensures.value ∙ c.in-Some.is in
     record {
       behind = omega arith;
       within = c.in-Some.ensures.within;

@@ -5,7 +5,7 @@ use Rattle.source.specs.Staying.{staying}
 use Rattle.source.proofs.joining.join_bytes.Given as goal
 
 abbrev pub invariant-loop-i : goal.invariant-loop-i
-invariant-loop-i l =
+invariant-loop-i g l =
     record {
       behind : l.k ≤ l.i;
       within : l.i ≤ length l.lines.text.now;
@@ -14,4 +14,4 @@ invariant-loop-i l =
     }
 
 abbrev pub decreases-loop-i : goal.decreases-loop-i
-decreases-loop-i l = l.stop - l.i
+decreases-loop-i g l = l.stop - l.i
