@@ -1,5 +1,5 @@
--- The entries in the order of their names: what a search halves, that one entry at most has a name, and that one more, put in where it belongs,
--- keeps the order. Assumes nothing.
+-- The entries in the order of their names: what a search halves and need not compare again, that one entry at most has a name, and that one more,
+-- put in where it belongs, keeps the order. Assumes nothing.
 use mathlib.Core.Path.{◌≡◌, refl, sym, ap, ◌∙◌}
 use mathlib.Core.Bool.{Bool, true, false, cond}
 use Rattle.std.specs.Prelude.{Some, None}

@@ -1,4 +1,5 @@
--- `rulebook::index::NameIndex::search`: what the name in the middle is to the name, those on the one side of it are too.
+-- `rulebook::index::NameIndex::search`: what the name in the middle is to the name, those on the one side of it are too; and what both ends share with
+-- the name the middle shares too.
 use Rattle.std.proofs.Common.{arith}
 use Rattle.bookform.specs.Format.{lead_of}
 use Rattle.rulebook.proofs.Sorting.{before-more, behind-more, middle-shared}
