@@ -1,5 +1,6 @@
 // Runs of a line or a content that no continuation begins in.
-ghost use Rattle.std.specs.Prelude.{◌≡◌, true, ◌+◌, ◌-◌, ◌<◌, ◌≤◌, ◌++◌, length, take, drop, get_or};
+ghost use Rattle.std.specs.Prelude.{◌≡◌, true, ◌+◌, ◌-◌, ◌<◌, ◌≤◌, ◌&&◌, ◌++◌, length, take, drop, get_or, leb};
+ghost use Rattle.std.specs.List.{list_all};
 ghost use Rattle.ascii.specs.Text.{leading};
 ghost use Rattle.refusal.specs.Answer.{max_length};
 ghost use Rattle.source.specs.Joining.{any_cut};
@@ -48,9 +49,10 @@ pub fn plain_end(content: &[u8], from: usize) -> usize
     ascii::long_run_end::<Plain>(content, from)
 }
 
-// Whether a run goes on for sixteen bytes, by one branch for all. Only the speed hangs on the answer: shorter ones are sooner kept byte by byte.
+// Whether a run goes on for sixteen bytes, by one branch for all: shorter ones are sooner kept byte by byte.
 pub fn is_long<S: ByteSet>(line: &[u8], from: usize) -> bool
     requires { from ≤ length line.now }
+    ensures { result ≡ (leb (from + 16) (length line.now) && list_all S.holds (take 16 (drop from line.now))) }
 {
     if line.len() - from < 16 {
         return false;
