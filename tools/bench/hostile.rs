@@ -172,6 +172,14 @@ fn run_together(count: usize) -> Vec<String> {
     (0..count - last.len()).map(other).chain(last).collect()
 }
 
+/// Directive names with a blank behind each letter, alike but for the last two, so that a short word runs along all of them.
+fn spaced(count: usize) -> Vec<String> {
+    let letter = |number: usize| (b'a' + (number % 16) as u8) as char;
+    (0..count)
+        .map(|number| format!("{}{} {}", "p ".repeat(30), letter(number / 16), letter(number)))
+        .collect()
+}
+
 /// Directive names of which those that fail are asked first, each as late as it can: `p p p ..` grows up to 32 words, and at each the names that have a
 /// letter in the place of one of its blanks.
 fn words_apart(count: usize) -> Vec<String> {
@@ -490,6 +498,12 @@ fn looked_up() -> Vec<Row> {
             format!("!$omp{}", " p".repeat(63)),
         )
     });
+    rows.push(many_row(
+        "lines free, p..p_, blanks optional",
+        Call::Lines { language: FORTRAN_FREE },
+        book(3, 2, &spaced(NAMES[2]), &["a".to_string()]),
+        format!("!$omp {}__", "p".repeat(30)),
+    ));
     rows.push({
         let named = book(0, 2, &words_apart(NAMES[2]), &["a".to_string()]);
         many_row(

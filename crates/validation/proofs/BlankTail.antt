@@ -78,7 +78,7 @@ module _ (p : ℕ → Bool) where
         eq-eqb (leading p (drop i s)) (length (drop i s)) (omega (arith, leading_le p (drop i s)))
         ∙ sym (le-leb (length s - leading p (reverse s)) i (run-within h l)))
 
-blank-from : (s : List ℕ) → blank_from s ≡ length s - leading is_trimmed (reverse s)
+pub blank-from : (s : List ℕ) → blank_from s ≡ length s - leading is_trimmed (reverse s)
 blank-from s =
     by_cases (ltb (leading is_trimmed s) (length s))
     (λ e.

@@ -2,12 +2,23 @@
 #![tactic(auto)]
 
 ghost use Rattle.std.specs.Prelude.{◌≡◌, reverse, ◌+◌, ◌-◌, ◌<◌, ◌≤◌, length, take, drop, ltb, IfSome};
-ghost use Rattle.ascii.specs.Text.{starts};
+ghost use Rattle.ascii.specs.Text.{starts, is_in_line};
 ghost use Rattle.validation.specs.declared.Quoting.TheVariants.{Outside};
 ghost use Rattle.validation.specs.Validation.{opened as opened_by, after_byte, is_inside, code_length, ends_in, unindented, continued_f, continued as continued_in, foreign_f, foreign as foreign_in, eol_bytes, check_end, check_line, fault, blank_from, Onward};
 
-use ascii::sets::{Blank, InLine, Trimmed};
+use ascii::sets::{Blank, ByteSet, Trimmed};
 use lexer::{Dialect, Language, Prefix, continuation};
+
+// All but LF and CR. By two comparisons and not by the class, as `ascii::sets::InLine`: two given bytes are sought, and by sixteens.
+struct OnLine;
+
+impl ByteSet for OnLine {
+    ghost holds = { is_in_line };
+
+    fn has(b: u8) -> bool {
+        (b != b'\n') & (b != b'\r')
+    }
+}
 
 // What a physical line, with all that follows it, says of the whole: all is well, a fault at a place,
 // or well as far as the next physical line, so many bytes on. No Result of an Option: the search answers with the fault, so that its `?` would turn an error
@@ -185,7 +196,7 @@ impl Line<'_> {
         ensures value { result ≡ check_line self.now.dialect.language self.now.dialect.prefix (ltb 0 at) at (drop at self.now.text.now) }
         ensures onward { Onward at (length self.now.text.now) result }
     {
-        let end = ascii::run_end::<InLine>(self.text, at);
+        let end = ascii::long_run_end::<OnLine>(self.text, at);
         if 0 < at && foreign(self.dialect, &self.text[at..end]) {
             return Checked::WrongAt(ascii::run_end::<Blank>(self.text, at));
         }
@@ -200,7 +211,7 @@ pub fn validate_logical_line(dialect: Dialect, line: &[u8]) -> Option<usize>
     let whole = Line {
         dialect,
         text: line,
-        tail: ascii::trim_range(line).end,
+        tail: ascii::run_start::<Trimmed>(line),
     };
     let mut at = 0;
     // by physical lines

@@ -1,8 +1,12 @@
 -- What the check of a physical line says, said of the fault from there on.
 use Rattle.std.proofs.Common.{◌∙◌, sym, refl, arith}
 use Rattle.validation.specs.Validation.{fault}
+use Rattle.validation.proofs.BlankTail.{blank-from}
 use Rattle.validation.proofs.Checking.{fault-end, fault-fine-at, fault-wrong-at, fault-next-at}
 use Rattle.validation.proofs.validate_logical_line.Goals as goal
+
+pub invariant_of-whole : goal.invariant_of-whole
+invariant_of-whole c = record { tail_found = c.run_start.ensures.value ∙ sym (blank-from c.args.line.now) }
 
 pub loop-at-init : goal.loop-at-init
 unfolding fault
