@@ -1,16 +1,15 @@
--- Laws of a run that stays: none, one byte before it, a run of bytes that begin no continuation; what is filled in for it.
--- Assumes nothing.
+-- Laws of a run that stays: none, one byte before it, a run of bytes that begin no continuation, by one induction for the bytes and their places; what is
+-- filled in for it. Assumes nothing.
 use Prim.Native.Nat.{ℕ, zero, suc, ◌+◌, ◌-◌, ◌<◌, ◌≤◌}
 use native.Mathlib.Nat.{add-zero}
 use native.Mathlib.Numerals.{add-one}
 use native.Mathlib.Omega.{arith}
-use mathlib.Core.Path.{◌≡◌, refl, sym, ap, ◌∙◌}
+use mathlib.Core.Path.{◌≡◌, refl, ap, ◌∙◌}
 use mathlib.Core.Bool.{Bool, true, false}
 use mathlib.Core.List.{List, [], ◌∷◌, ◌++◌, map, append_assoc}
-use lib.ListN.{set, length, take, drop, get_or, length-drop}
-use lib.Seq.{drop-cons, get_or-drop, take-suc}
+use lib.ListN.{length, take, drop, get_or, length-drop}
+use lib.Seq.{drop-cons, get_or-drop}
 use lib.Dec.{eqb}
-use Rattle.ascii.proofs.Slots.{pushed}
 use borrow.Author.Tests.{not-true}
 use Rattle.ascii.proofs.Flags.{and_left, and_right}
 use Rattle.std.specs.List.{prefix_len}
@@ -25,7 +24,7 @@ use Rattle.source.specs.Joining.{any_cut, byte_of, place_of}
 use Rattle.source.specs.Staying.{BeginsNone, is_plain_c, is_plain_f, is_plain, counted, Stays}
 use Rattle.source.proofs.Kept.{kept_next}
 
--- a byte that is no mark begins no continuation
+-- a byte that is neither `\` nor `&` begins no continuation, and each of them none of the other language
 module _ (xs : List ℕ) (i : ℕ) where
   first-is : get_or (drop i xs) 0 0 ≡ get_or xs i 0
   first-is = get_or-drop i xs 0 0 ∙ rw add-zero refl
@@ -109,56 +108,7 @@ module _ (i k n : ℕ) where
       let m : n - k ≡ 0 = omega arith in
       rw m refl
 
-pub length-counted : (at n : ℕ) → length (counted at n) ≡ n
-unfolding counted
-length-counted at zero = refl
-length-counted at (suc n) = ap suc (length-counted (suc at) n)
-
-counted-more : (at n : ℕ) → counted at (suc n) ≡ counted at n ++ ((at + n) ∷ [])
-unfolding counted
-counted-more at zero = rw add-zero refl
-counted-more at (suc n) =
-    let m : suc at + n ≡ at + suc n = omega arith in
-    ap (λ (r : List ℕ). at ∷ r) (rw m at (counted-more (suc at) n))
-
--- a byte put in at a place and a run behind it are one run, and so are their places
-module _ (slots done : List ℕ) (at from end : ℕ) (h : at < length slots) (o : from < end) where
-  next-of : at + (end - from) ≡ at + 1 + (end - (from + 1))
-  next-of = omega arith
-
-  pub byte-before : (xs : List ℕ) → from < length xs → take (at + 1 + (end - (from + 1))) done ≡ take (at + 1) (set slots at (get_or xs from 0)) ++ take (end - (from + 1)) (drop (from + 1) xs)
-      → take (at + (end - from)) done ≡ take at slots ++ take (end - from) (drop from xs)
-  byte-before xs b e =
-      let n : end - from ≡ suc (end - (from + 1)) = omega arith in
-      rw (next-of, e, pushed, n, drop-cons xs from 0, ← add-one from) refl
-
-  pub place-before : take (at + 1 + (end - (from + 1))) done ≡ take (at + 1) (set slots at from) ++ counted (from + 1) (end - (from + 1)) → take (at + (end - from)) done ≡ take at slots ++ counted from (end - from)
-  place-before e = rw (next-of, e, pushed, counted-next from from end o) refl
-
--- a run of no byte
-pub none-run : (from : ℕ) (xs : List ℕ) → (take (from - from) (drop from xs) ≡ []) × (counted from (from - from) ≡ [])
-unfolding counted
-none-run from xs =
-    let n : from - from ≡ 0 = omega arith in
-    (rw n refl, rw n refl)
-
--- a run with one byte more, and with its place
-module _ (from i : ℕ) (o : from ≤ i) where
-  suc-of : i + 1 - from ≡ suc (i - from)
-  suc-of = omega arith
-
-  pub more-bytes : (xs : List ℕ) → i < length xs → take (i + 1 - from) (drop from xs) ≡ take (i - from) (drop from xs) ++ (get_or xs i 0 ∷ [])
-  more-bytes xs h =
-      let g : get_or (drop from xs) (i - from) 0 ≡ get_or xs i 0 = get_or-drop from xs (i - from) 0 ∙ (let m : from + (i - from) ≡ i = omega arith in rw m refl) in
-      let l : i - from < length (drop from xs) = simp length-drop (omega arith) in
-      rw suc-of (take-suc (drop from xs) (i - from) 0 l ∙ rw g refl)
-
-  pub more-places : counted from (i + 1 - from) ≡ counted from (i - from) ++ (i ∷ [])
-  more-places =
-      let m : from + (i - from) ≡ i = omega arith in
-      rw suc-of (rw m at (counted-more from (i - from)))
-
--- slots that are filled from the front: n put in at k are what came next, and what is still to come is behind them
-pub filled : {A : Type 0} (slots part to_come behind whole : List A) (k n : ℕ) → length part ≡ n → k ≤ length slots → to_come ≡ part ++ behind → take k slots ++ to_come ≡ whole
-    → take (k + n) (put_mid k (k + n - k) slots part) ++ behind ≡ whole
-filled slots part to_come behind whole k n l h e f = rw (take-put_mid k (k + n - k) slots part (k + n) (ap (λ m. k + m) (sym l)) h, append_assoc, ← e) f
+-- slots that are filled from the front: a part put in at k is what came next, and what is still to come is behind it
+pub filled : {A : Type 0} (slots part to_come behind whole : List A) (k : ℕ) → k ≤ length slots → to_come ≡ part ++ behind → take k slots ++ to_come ≡ whole
+    → take (k + length part) (put_mid k (k + length part - k) slots part) ++ behind ≡ whole
+filled slots part to_come behind whole k h e f = rw (take-put_mid k (k + length part - k) slots part (k + length part) refl h, append_assoc, ← e) f

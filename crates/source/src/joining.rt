@@ -45,7 +45,7 @@ fn lines_of<'a>(language: Language, line: &'a [u8]) -> Lines<'a>
     }
 }
 
-// The same, where no byte of a set begins a continuation: such a byte is answered by one comparison.
+// What `cut_at` gives, where no byte of a set begins a continuation: such a byte is answered by one comparison.
 fn cut_but<S: ByteSet>(language: Language, lines: &Lines<'_>, at: usize) -> Option<usize>
     requires in_bounds { at < length lines.now.text.now }
     requires set { BeginsNone S.holds (cut_of language) }
@@ -108,7 +108,7 @@ fn join_by<S: ByteSet>(language: Language, line: &[u8], text: &mut [u8], map: &m
     let mut i = 0;
     let mut k = 0;
     let lines = lines_of(language, line);
-    // by a long run, or some bytes one by one
+    // by a long run or thirty-two bytes: by fewer, texts with many breaks ask too often for a run, by more it is found late
     while i < line.len() {
         if S::has(line[i]) && runs::is_long::<S>(line, i + 1) {
             let end = runs::keep_block::<S>(line, i, text, map, k);

@@ -1,5 +1,5 @@
 -- A byte that stays is copied with the run behind it; a continuation is passed over.
-use Rattle.std.proofs.Common.{◌≡◌, ◌+◌, ◌-◌, ◌∙◌, ◌≤◌, sym, refl, arith, rules, take, drop, length, length-drop}
+use Rattle.std.proofs.Common.{◌≡◌, ◌+◌, ◌-◌, ◌∙◌, ◌≤◌, sym, arith, rules, take, drop, length, length-drop}
 use Rattle.std.proofs.Math.Seq.{length-take-le}
 use Rattle.std.proofs.lemmas.List.{append-nil}
 use Rattle.source.specs.Joining.{any_cut, collapsed}
@@ -25,7 +25,7 @@ loop-i-preserved c =
     record {
       behind = omega arith;
       within = omega arith;
-      copy = rw (part, m) (filled c.loop-i.copy run _ _ _ c.loop-i.k (length run) refl (omega arith) s.bytes c.loop-i.invariant.copy);
+      copy = rw (part, m) (filled c.loop-i.copy run _ _ _ c.loop-i.k (omega arith) s.bytes c.loop-i.invariant.copy);
       text = same;
     }
 

@@ -1,4 +1,4 @@
--- A byte that stays is kept with the run behind it; a continuation is passed over. Assumes nothing.
+-- A long run stays as a block; what `join_bytes` says of the rest is the invariant again. Assumes nothing.
 use Rattle.std.proofs.Common.{◌∙◌, ◌<◌, ◌≤◌, sym, arith, length, add-one}
 use Rattle.std.proofs.Math.Seq.{length-take-le, take-suc-set}
 use Rattle.std.proofs.lemmas.List.{append-nil, append_assoc}
