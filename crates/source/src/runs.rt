@@ -1,5 +1,5 @@
 // Runs of a line or a content that no continuation begins in.
-ghost use Rattle.std.specs.Prelude.{◌≡◌, true, ◌+◌, ◌-◌, ◌<◌, ◌≤◌, ◌&&◌, ◌++◌, length, take, drop, get_or, leb};
+ghost use Rattle.std.specs.Prelude.{◌≡◌, ◌+◌, ◌-◌, ◌≤◌, ◌&&◌, ◌++◌, length, take, drop, leb};
 ghost use Rattle.std.specs.List.{list_all};
 ghost use Rattle.ascii.specs.Text.{leading};
 ghost use Rattle.refusal.specs.Answer.{max_length};
