@@ -18,7 +18,7 @@ use Rattle.directive.specs.declared.foreseen.Tally.TheVariants.{Zero}
 use Rattle.directive.specs.Name.{compact, same_compact, entries_with, only, may_grow, extended}
 use Rattle.directive.specs.Steps.{Extended, only_one}
 use Rattle.directive.specs.declared.outlook.Outlook.{Outlook}
-use Rattle.directive.specs.Kept.{Foretells, IfForeseen, Ready}
+use Rattle.directive.specs.Kept.{Foretells, IfForeseen, KeptFor}
 use Rattle.directive.proofs.Beginning.{passed-on}
 use Rattle.directive.proofs.Long.{compact-append}
 use Rattle.directive.proofs.Optional.{grow-compact}
@@ -53,8 +53,8 @@ foretells-on book c w f e b t =
     }
 
 -- what is kept once the candidate has a word more: the names that are left, and what is foreseen from then on
-pub ready-word : (book : Book) (c w : List ℕ) (o : Outlook) (f : Option Foreseen) → 0 < length w → Ready book c o → IfForeseen book (extended c w) f
-    → Ready book (extended c w) (record { left = o.left; foreseen = f })
+pub ready-word : (book : Book) (c w : List ℕ) (o : Outlook) (f : Option Foreseen) → 0 < length w → KeptFor book c o → IfForeseen book (extended c w) f
+    → KeptFor book (extended c w) (record { left = o.left; foreseen = f })
 ready-word book c w o f some r g = record {
   left = (r.left.0, r.left.1, passed-on book.ignores_case c w r.left.0 some r.left.2);
   foreseen = g;

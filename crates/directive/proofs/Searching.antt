@@ -15,7 +15,7 @@ use Rattle.directive.specs.declared.candidate.Full.{Full}
 use Rattle.directive.specs.Steps.{AreBytes, kept_if, fitting, behind, next_of, Ahead, Good}
 use Rattle.directive.specs.declared.foreseen.Foreseen.{Foreseen}
 use Rattle.directive.specs.declared.outlook.Outlook.{Outlook}
-use Rattle.directive.specs.Kept.{Within, IfForeseen, Ready}
+use Rattle.directive.specs.Kept.{Within, IfForeseen, KeptFor}
 use Rattle.directive.proofs.Long.{Spaced, spaced-grown, short-book, entry-long, grows-long, fits-none, fits-some}
 use Rattle.directive.proofs.Beginning.{extended-some}
 use Rattle.directive.proofs.Naming.{turned, turn, long-turn, word-ahead}
@@ -26,7 +26,7 @@ pub record Searched (bs text : List ℕ) (from start place : ℕ) (c : List ℕ)
   pub within : (start ≤ place) × (place ≤ length text)
   pub spaced : Spaced c
   pub alike : name_from (book_of bs) text from c found 0 place (drop place text) ≡ name_from (book_of bs) text from [] None 0 start (drop start text)
-  pub ready : Ready (book_of bs) c o
+  pub ready : KeptFor (book_of bs) c o
   pub good : Good start (length text) found
 
 module _ {bs text : List ℕ} {from start place end : ℕ} {c : List ℕ} {o : Outlook} {found : Option Named} (fit : AreBytes bs) (valid : book_fault bs ≡ None) (here : Searched bs text from start place c o found)
@@ -70,7 +70,7 @@ module _ {bs text : List ℕ} {from start place end : ℕ} {c : List ℕ} {o : O
     pub kept-some : 0 < length kept
     kept-some = rw (fits-some kept grown r fits push) (extended-some c (take (end - place) (drop place text)) word-some)
 
-    pub kept-ready : (after : Outlook) → Ready (book_of bs) grown after → Ready (book_of bs) kept after
+    pub kept-ready : (after : Outlook) → KeptFor (book_of bs) grown after → KeptFor (book_of bs) kept after
     kept-ready after g = rw (fits-some kept grown r fits push) g
 
   -- kept
@@ -86,7 +86,7 @@ module _ {bs text : List ℕ} {from start place end : ℕ} {c : List ℕ} {o : O
     kept-good m = rw e (good-latest bs kept (fit 7) start (length text) end found (omega (arith, here.within, ahead)) m here.good)
 
     -- the search goes on at the next word
-    pub searched-on : (p : ℕ) (after : Outlook) → Ready (book_of bs) kept after → end ≤ length text → Ok (Some p) ≡ next_of (book_of bs) text end kept → (end ≤ p) × (p ≤ length text)
+    pub searched-on : (p : ℕ) (after : Outlook) → KeptFor (book_of bs) kept after → end ≤ length text → Ok (Some p) ≡ next_of (book_of bs) text end kept → (end ≤ p) × (p ≤ length text)
         → Searched bs text from start p kept after (latest entry end found)
     searched-on p after k m q a = record {
       within = (omega (arith, here.within, ahead, a), a.1);

@@ -28,7 +28,7 @@ Within None = Unit {0}
 Within (Some f) = f.reached ≤ length f.letters
 
 -- what is kept from word to word is that of a candidate
-pub record Ready (book : Book) (c : List ℕ) (o : Outlook) : Type 0 where
+pub record KeptFor (book : Book) (c : List ℕ) (o : Outlook) : Type 0 where
   pub left : Left book c o.left
   pub foreseen : IfForeseen book c o.foreseen
 

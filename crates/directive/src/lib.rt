@@ -13,7 +13,7 @@ ghost use Rattle.refusal.specs.Answer.{told};
 ghost use Rattle.rulebook.specs.Book.{book_of};
 ghost use Rattle.directive.specs.Name.{entry_of, name_from, name_at};
 ghost use Rattle.directive.specs.Steps.{next_of, Ahead, Ends, Placed};
-ghost use Rattle.directive.specs.Kept.{Ready, Asked};
+ghost use Rattle.directive.specs.Kept.{KeptFor, Asked};
 
 use ascii::class::is_word;
 use ascii::sets::Word;
@@ -57,10 +57,10 @@ fn next_word(
     requires end_in_bounds { end ≤ length text.now }
     requires not_empty { 0 < length candidate.now }
     requires value { entry ≡ entry_of (book_of book.now.bytes.now) candidate.now }
-    requires ready { Ready (book_of book.now.bytes.now) candidate.now outlook.old }
+    requires ready { KeptFor (book_of book.now.bytes.now) candidate.now outlook.old }
     requires asked { Asked (book_of book.now.bytes.now) entry outlook.old }
     ensures value_2 { result ≡ next_of (book_of book.now.bytes.now) text.now end candidate.now }
-    ensures ready_2 { Ready (book_of book.now.bytes.now) candidate.now outlook.new }
+    ensures ready_2 { KeptFor (book_of book.now.bytes.now) candidate.now outlook.new }
     ensures ahead { Ahead end (length text.now) result }
 {
     let place = skip(text, end, book.header.ignores_case)?;

@@ -3,7 +3,7 @@ ghost use Rattle.std.specs.Prelude.{◌≡◌, ◌≤◌, ◌<◌, ℕ, List, []
 ghost use Rattle.rulebook.specs.Book.{Book, book_of};
 ghost use Rattle.rulebook.specs.Lookup.{comparison, entry_from};
 ghost use Rattle.directive.specs.Name.{compact, extended, entry_of, may_grow};
-ghost use Rattle.directive.specs.Kept.{Within, Ready, Asked};
+ghost use Rattle.directive.specs.Kept.{Within, KeptFor, Asked};
 
 use crate::candidate::Candidate;
 use crate::foreseen::Foreseen;
@@ -33,7 +33,7 @@ fn plain_entry(book: &CheckedBook, candidate: &[u8]) -> Option<usize>
 
 impl<'a> Outlook<'a> {
     pub fn new(book: &CheckedBook<'a>) -> Outlook<'a>
-        ensures { Ready (book_of book.now.bytes.now) [] result }
+        ensures { KeptFor (book_of book.now.bytes.now) [] result }
     {
         Outlook {
             left: NamesLeft::new(book),
@@ -46,7 +46,7 @@ impl<'a> Outlook<'a> {
         requires within { Within self.old.foreseen }
         requires some { 0 < length word.now }
         requires solid { compact word.now ≡ word.now }
-        ensures { (book : Book) (c : List ℕ) → Ready book c self.old → Ready book (extended c word.now) self.new }
+        ensures { (book : Book) (c : List ℕ) → KeptFor book c self.old → KeptFor book (extended c word.now) self.new }
     {
         if let Some(foreseen) = &mut self.foreseen {
             if !foreseen.pass(word) {
@@ -65,9 +65,9 @@ impl<'a> Outlook<'a> {
         candidate: &Candidate,
     ) -> Option<usize>
         requires end_in_bounds { end ≤ length text.now }
-        requires ready { Ready (book_of book.now.bytes.now) candidate.now self.old }
+        requires ready { KeptFor (book_of book.now.bytes.now) candidate.now self.old }
         ensures value { result ≡ entry_of (book_of book.now.bytes.now) candidate.now }
-        ensures ready_2 { Ready (book_of book.now.bytes.now) candidate.now self.new }
+        ensures ready_2 { KeptFor (book_of book.now.bytes.now) candidate.now self.new }
         ensures asked { Asked (book_of book.now.bytes.now) result self.new }
     {
         let named = plain_entry(book, candidate.as_slice());
@@ -84,10 +84,10 @@ impl<'a> Outlook<'a> {
     pub fn may_grow(&mut self, book: &CheckedBook, candidate: &[u8], entry: Option<usize>) -> bool
         requires not_empty { 0 < length candidate.now }
         requires value { entry ≡ entry_of (book_of book.now.bytes.now) candidate.now }
-        requires ready { Ready (book_of book.now.bytes.now) candidate.now self.old }
+        requires ready { KeptFor (book_of book.now.bytes.now) candidate.now self.old }
         requires asked { Asked (book_of book.now.bytes.now) entry self.old }
         ensures value_2 { result ≡ may_grow (book_of book.now.bytes.now) candidate.now }
-        ensures ready_2 { Ready (book_of book.now.bytes.now) candidate.now self.new }
+        ensures ready_2 { KeptFor (book_of book.now.bytes.now) candidate.now self.new }
     {
         if entry.is_some() {
             return true;
