@@ -108,14 +108,17 @@ fn join_by<S: ByteSet>(language: Language, line: &[u8], text: &mut [u8], map: &m
     let mut i = 0;
     let mut k = 0;
     let lines = lines_of(language, line);
-    // by a long run or thirty-two bytes: by fewer, texts with many breaks ask too often for a run, by more it is found late
+    let mut step = 4;
+    // by a long run, or by bytes: a few behind a run, since most breaks stand alone, and then thirty-two, so that a text of many breaks does not often ask for a run
     while i < line.len() {
         if S::has(line[i]) && runs::is_long::<S>(line, i + 1) {
             let end = runs::keep_block::<S>(line, i, text, map, k);
             k += end - i;
             i = end;
+            step = 4;
         } else {
-            let stop = line.len().min(i + 32);
+            let stop = line.len().min(i + step);
+            step = 32;
             let (next, kept) = join_bytes::<S>(language, &lines, i, stop, text, map, k);
             i = next;
             k = kept;

@@ -19,6 +19,7 @@ loop-i-preserved-then-is_long g c =
     let s : Stays cut t l.i end = stays-run cut t g.S.ByteSet.holds c.requires.set l.i end l.invariant.within e.within.0 (omega (arith, e.run)) in
     record {
       behind = omega arith;
+      step = (omega arith, omega arith);
       within = omega arith;
       text = rw (e.text, append_assoc, ← s.bytes) l.invariant.text;
       map = rw (e.map, append_assoc, ← s.places) l.invariant.map;
