@@ -17,7 +17,7 @@ use Rattle.std.proofs.lemmas.List.Sums.{prefix_len_is, prefix_len_passes, suffix
 use borrow.Author.Tests.{lt-ltb, le-ltb, leb-true, leb-false, eq-eqb, ne_eqb, eqb-true, eqb-false}
 use Rattle.ascii.specs.declared.Range.{Range}
 use Rattle.ascii.specs.Ascii.{is_trimmed, is_low}
-use Rattle.ascii.specs.Text.{leading, past, up_to, trimmed, begins, first_high}
+use Rattle.ascii.specs.Text.{all_from, leading, past, up_to, trimmed, begins, first_high}
 use Rattle.ascii.proofs.Flags.{and_left, and_right, by_cases}
 
 -- runs
@@ -59,18 +59,41 @@ module _ (p : ℕ → Bool) (s : List ℕ) (i : ℕ) where
   unfolding leading
   leading-more h e = rw (add-one, drop-cons s i 0, leading, e)
 
--- the byte at a place and the k behind it have the property
+-- the byte at a place and the k behind it are passed
 module _ (p : ℕ → Bool) (s : List ℕ) (i : ℕ) where
-  abbrev pub have : ℕ → Bool
-  have zero = p (get_or s i 0)
-  have (suc k) = have k && p (get_or s (i + suc k) 0)
-
-  pub leading-past : (k : ℕ) → i + k < length s → have k ≡ true → leading p (drop i s) ≡ suc k + leading p (drop (i + suc k) s)
+  pub leading-past : (k : ℕ) → i + k < length s → all_from p s i k ≡ true → leading p (drop i s) ≡ suc k + leading p (drop (i + suc k) s)
   leading-past zero h e = omega (arith, leading-more p s i (omega arith) e)
   leading-past (suc k) h e =
       let n : i + suc k + 1 ≡ i + suc (suc k) = omega arith in
-      let m = leading-more p s (i + suc k) h (and_right (have k) (p (get_or s (i + suc k) 0)) e) in
-      omega (arith, leading-past k (omega arith) (and_left (have k) (p (get_or s (i + suc k) 0)) e), rw n at m)
+      let m = leading-more p s (i + suc k) h (and_right (all_from p s i k) (p (get_or s (i + suc k) 0)) e) in
+      omega (arith, leading-past k (omega arith) (and_left (all_from p s i k) (p (get_or s (i + suc k) 0)) e), rw n at m)
+
+-- eight of them, sixteen, thirty-two
+module _ (p : ℕ → Bool) (s : List ℕ) where
+  abbrev pub eight_from : ℕ → Bool
+  eight_from i = all_from p s i 7
+
+  pub past-eight : (i : ℕ) → i + 8 ≤ length s → eight_from i ≡ true → leading p (drop i s) ≡ 8 + leading p (drop (i + 8) s)
+  past-eight i h e = leading-past p s i 7 (omega arith) e
+
+  pub past-sixteen : (i : ℕ) → i + 16 ≤ length s → (eight_from i && eight_from (i + 8)) ≡ true → leading p (drop i s) ≡ 16 + leading p (drop (i + 16) s)
+  past-sixteen i h e =
+      let n : i + 8 + 8 ≡ i + 16 = omega arith in
+      let a = past-eight i (omega arith) (and_left (eight_from i) (eight_from (i + 8)) e) in
+      let b = past-eight (i + 8) (omega arith) (and_right (eight_from i) (eight_from (i + 8)) e) in
+      omega (arith, a, rw n at b)
+
+  pub past-many : (i : ℕ) → i + 32 ≤ length s → (eight_from i && eight_from (i + 8) && eight_from (i + 16) && eight_from (i + 24)) ≡ true
+      → leading p (drop i s) ≡ 32 + leading p (drop (i + 32) s)
+  past-many i h e =
+      let n : i + 16 + 8 ≡ i + 24 = omega arith in
+      let m : i + 24 + 8 ≡ i + 32 = omega arith in
+      let x = eight_from i && eight_from (i + 8) in
+      let xy = and_left (x && eight_from (i + 16)) (eight_from (i + 24)) e in
+      let a = past-sixteen i (omega arith) (and_left x (eight_from (i + 16)) xy) in
+      let b = past-eight (i + 16) (omega arith) (and_right x (eight_from (i + 16)) xy) in
+      let c = past-eight (i + 24) (omega arith) (and_right (x && eight_from (i + 16)) (eight_from (i + 24)) e) in
+      omega (arith, a, rw n at b, rw m at c)
 
 -- a run stops at a byte without the property
 leading-bounded : (p : ℕ → Bool) (ws : List ℕ) (b : ℕ) (vs : List ℕ) → p b ≡ false → leading p (ws ++ b ∷ vs) ≤ length ws

@@ -24,6 +24,11 @@ leading p (x ∷ xs) = cond (p x) (suc (leading p xs)) zero
 abbrev pub past : (ℕ → Bool) → List ℕ → ℕ
 past p xs = leading p xs + cond (ltb (leading p xs) (length xs)) 1 0
 
+-- the byte at a place and the n behind it have the property
+abbrev pub all_from : (ℕ → Bool) → List ℕ → ℕ → ℕ → Bool
+all_from p xs at zero = p (get_or xs at 0)
+all_from p xs at (suc n) = all_from p xs at n && p (get_or xs (at + suc n) 0)
+
 -- the number of bytes up to and with the first that has the property, or all
 unfoldable pub up_to : (ℕ → Bool) → List ℕ → ℕ
 up_to p [] = zero

@@ -5,8 +5,8 @@ pub mod class;
 pub mod sets;
 
 ghost use Rattle.std.specs.Prelude.{◌≡◌, reverse, ◌++◌, ◌+◌, ◌-◌, ◌≤◌, length, take, drop, get_or, eqb};
-ghost use Rattle.ascii.specs.Ascii.{is_trimmed};
-ghost use Rattle.ascii.specs.Text.{leading, past, trimmed, LentPart, trim_call, begins, first_high, comparing};
+ghost use Rattle.ascii.specs.Ascii.{is_trimmed, is_low};
+ghost use Rattle.ascii.specs.Text.{leading, all_from, past, trimmed, LentPart, trim_call, begins, first_high, comparing};
 
 use sets::{ByteSet, Low, Trimmed};
 
@@ -118,44 +118,61 @@ pub fn begins_at(text: &[u8], at: usize, word: &[u8], ignore_case: bool) -> bool
             .all(|(a, b)| same_byte(*a, *b, ignore_case))
 }
 
-// What `run_end` gives, for a long run of a set whose question is a mere comparison: one branch for sixteen bytes. They are written out, as an `all` over them
-// would have a branch for each.
+// Whether the eight bytes of a text from a place on are of a set whose question is a mere comparison: one branch for all. They are written out, as an `all` over
+// them would have a branch for each.
+fn eight<S: ByteSet>(text: &[u8], at: usize) -> bool
+    requires { at + 8 ≤ length text.now }
+    ensures { result ≡ all_from S.holds text.now at 7 }
+{
+    S::has(text[at])
+        & S::has(text[at + 1])
+        & S::has(text[at + 2])
+        & S::has(text[at + 3])
+        & S::has(text[at + 4])
+        & S::has(text[at + 5])
+        & S::has(text[at + 6])
+        & S::has(text[at + 7])
+}
+
+// What `run_end` gives, for a long run of such a set: by sixteens, and by eight where sixteen are too many.
 pub fn long_run_end<S: ByteSet>(text: &[u8], from: usize) -> usize
     requires { from ≤ length text.now }
     ensures value { result ≡ from + leading S.holds (drop from text.now) }
     ensures lower_bound { (from ≤ result) × (result ≤ length text.now) }
 {
     let mut i = from;
-    // in steps of sixteen: byte by byte it is slower
-    while i + 16 <= text.len() {
-        let all = S::has(text[i])
-            & S::has(text[i + 1])
-            & S::has(text[i + 2])
-            & S::has(text[i + 3])
-            & S::has(text[i + 4])
-            & S::has(text[i + 5])
-            & S::has(text[i + 6])
-            & S::has(text[i + 7])
-            & S::has(text[i + 8])
-            & S::has(text[i + 9])
-            & S::has(text[i + 10])
-            & S::has(text[i + 11])
-            & S::has(text[i + 12])
-            & S::has(text[i + 13])
-            & S::has(text[i + 14])
-            & S::has(text[i + 15]);
+    while i + 16 <= text.len() && eight::<S>(text, i) & eight::<S>(text, i + 8) {
+        i += 16;
+    }
+    if i + 8 <= text.len() && eight::<S>(text, i) {
+        i += 8;
+    }
+    run_end::<S>(text, i)
+}
+
+// Where a run of low bytes is still going on, by thirty-two from the start of a text.
+fn low_run(text: &[u8]) -> usize
+    ensures within { result ≤ length text.now }
+    ensures run { result + leading is_low (drop result text.now) ≡ leading is_low text.now }
+{
+    let mut i = 0;
+    while i + 32 <= text.len() {
+        let all = eight::<Low>(text, i)
+            & eight::<Low>(text, i + 8)
+            & eight::<Low>(text, i + 16)
+            & eight::<Low>(text, i + 24);
         if !all {
             break;
         }
-        i += 16;
+        i += 32;
     }
-    run_end::<S>(text, i)
+    i
 }
 
 // The first byte above 127.
 pub fn first_high(text: &[u8]) -> Option<usize>
     ensures { result ≡ first_high 0 text.now }
 {
-    let low = long_run_end::<Low>(text, 0);
+    let low = long_run_end::<Low>(text, low_run(text));
     if low < text.len() { Some(low) } else { None }
 }
