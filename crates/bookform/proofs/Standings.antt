@@ -3,21 +3,20 @@
 use mathlib.Core.Path.{◌≡◌, refl, ◌∙◌}
 use mathlib.Core.Bool.{Bool, true, false, not, ◌&&◌, ◌||◌}
 use mathlib.Core.List.{List}
-use Prim.Native.Nat.{ℕ, zero, suc, ◌+◌, ◌-◌, ◌<◌, ◌≤◌}
+use Prim.Native.Nat.{ℕ, zero, suc, ◌+◌, ◌-◌, ◌≤◌}
 use native.Mathlib.Nat.{add-zero}
 use native.Mathlib.Omega.{arith}
-use lib.ListN.{length, take, drop, get_or, length-drop}
+use lib.ListN.{length, drop, get_or}
 use lib.Dec.{eqb, ltb}
 use borrow.Author.Tests.{ltb-true, ltb-false}
 use Rattle.std.specs.Prelude.{Some}
-use Rattle.std.proofs.lemmas.List.{get_or-take, get_or-drop, length-take-le}
 use Rattle.ascii.specs.Ascii.{is_word, is_digit, is_letter}
 use Rattle.ascii.proofs.Flags.{by_cases, and_left, and_right}
 use Rattle.bookform.specs.declared.EntryKind.TheVariants.{Directive, Clause}
 use Rattle.bookform.specs.declared.Expect.{Expect}
 use Rattle.bookform.specs.declared.Expect.TheVariants.{DirectiveLength, DirectiveName, Rule, ClauseLength, ClauseName}
 use Rattle.bookform.specs.Format.{stepped, rule_for, is_known, clauses_left, directives_left, bad_from}
-use Rattle.bookform.specs.Standing.{stands, is_of_name, stands_behind, Standing, IsName, NameEnds, Passed}
+use Rattle.bookform.specs.Standing.{stands, is_of_name, stands_behind, Standing, Behind, IsName, NameEnds, Passed}
 use Rattle.bookform.proofs.Steps.{at_least, bad-later}
 
 -- a byte behind one of a name may stand there, and is of the name then
@@ -47,39 +46,57 @@ module _ (between : ℕ) (bs : List ℕ) (from : ℕ) where
   pub standing-more : (to : ℕ) → stands between (get_or bs (to - 1) 0) (get_or bs to 0) ≡ true → Standing between bs from to → Standing between bs from (to + 1)
   standing-more to t s i f g = by_cases (ltb i to) (λ l. s i f (ltb-true i to l)) (λ l. let e : i ≡ to = omega (arith, ltb-false i to l) in rw e t)
 
-  -- one byte more, behind one of the name
-  pub standing-next : (to : ℕ) → is_of_name between (get_or bs (to - 1) 0) ≡ true → stands_behind between (get_or bs (to - 1) 0) (get_or bs to 0) ≡ true
-      → Standing between bs from to → (is_of_name between (get_or bs to 0) ≡ true) × Standing between bs from (to + 1)
-  standing-next to f t s =
-      let g = behind-stands between (get_or bs (to - 1) 0) (get_or bs to 0) f t in
-      (stands_of between (get_or bs (to - 1) 0) (get_or bs to 0) g, standing-more to g s)
+-- bytes of which each may stand behind the one before, where the one before the first is of a name
+module _ (between : ℕ) (bs : List ℕ) (from : ℕ) (first : is_of_name between (get_or bs (from - 1) 0) ≡ true) where
+  before : (k : ℕ) → Standing between bs from (from + k) → is_of_name between (get_or bs (from + k - 1) 0) ≡ true
+  before zero s = rw (add-zero from) first
+  before (suc k) s =
+      let e : from + suc k - 1 ≡ from + k = omega arith in
+      rw e (stands_of between (get_or bs (from + k - 1) 0) (get_or bs (from + k) 0) (s (from + k) (omega arith) (omega arith)))
 
--- the byte at a place and k behind it may each stand behind the one before
-module _ (between : ℕ) (bs : List ℕ) (at : ℕ) (first : is_of_name between (get_or bs (at - 1) 0) ≡ true) where
-  abbrev behind : ℕ → ℕ → Bool
-  behind i j = stands_behind between (get_or bs i 0) (get_or bs j 0)
+  run-stands : (k : ℕ) → Behind between bs from (from + k) → Standing between bs from (from + k)
+  run-stands zero h = standing-none between bs from (from + zero) (omega arith)
+  run-stands (suc k) h =
+      let n : from + k + 1 ≡ from + suc k = omega arith in
+      let s = run-stands k (λ i f g. h i f (omega arith)) in
+      rw n at (standing-more between bs from (from + k)
+      (behind-stands between (get_or bs (from + k - 1) 0) (get_or bs (from + k) 0) (before k s) (h (from + k) (omega arith) (omega arith))) s)
 
-  abbrev pub run-behind : ℕ → Bool
-  run-behind zero = behind (at - 1) at
-  run-behind (suc zero) = run-behind zero && behind at (at + 1)
-  run-behind (suc (suc k)) = run-behind (suc k) && behind (at + suc k) (at + suc (suc k))
+  all-stand : (to : ℕ) → Behind between bs from to → Standing between bs from to
+  all-stand to h i f g = run-stands (to - from) (λ j l m. h j l (omega arith)) i f (omega arith)
 
-  -- one more byte behind the last of a run
-  one_more : (i j : ℕ) → j - 1 ≡ i → is_of_name between (get_or bs i 0) ≡ true → behind i j ≡ true → Standing between bs at j → Standing between bs at (j + 1)
-  one_more i j e f h s = standing-more between bs at j (rw e (behind-stands between (get_or bs i 0) (get_or bs j 0) f h)) s
+-- so those between a first byte of a word and a last one are a name
+pub name-stands : (between : ℕ) (bs : List ℕ) (start end : ℕ) → is_word (get_or bs start 0) ≡ true → Behind between bs (start + 1) end
+    → is_word (get_or bs (end - 1) 0) ≡ true → IsName between start end bs
+name-stands between bs start end f h l =
+    let p : start + 1 - 1 ≡ start = omega arith in
+    record { first = f; inner = all-stand between bs (start + 1) (rw (p, f)) end h; last = l }
 
-  pub run-stands : (k : ℕ) → run-behind k ≡ true → Standing between bs at (at + suc k)
-  run-stands zero h = one_more (at - 1) at refl first h (standing-none between bs at at (omega arith))
-  run-stands (suc zero) h =
-      let n : at + 1 + 1 ≡ at + suc (suc zero) = omega arith in
-      let s = run-stands zero (and_left (run-behind zero) (behind at (at + 1)) h) in
-      let f = stands_of between (get_or bs (at - 1) 0) (get_or bs at 0) (s at (omega arith) (omega arith)) in
-      rw n at (one_more at (at + 1) (omega arith) f (and_right (run-behind zero) (behind at (at + 1)) h) s)
-  run-stands (suc (suc k)) h =
-      let n : at + suc (suc k) + 1 ≡ at + suc (suc (suc k)) = omega arith in
-      let s = run-stands (suc k) (and_left (run-behind (suc k)) (behind (at + suc k) (at + suc (suc k))) h) in
-      let f = stands_of between (get_or bs (at + suc k - 1) 0) (get_or bs (at + suc k) 0) (s (at + suc k) (omega arith) (omega arith)) in
-      rw n at (one_more (at + suc k) (at + suc (suc k)) (omega arith) f (and_right (run-behind (suc k)) (behind (at + suc k) (at + suc (suc k))) h) s)
+-- bytes from a place on, asked from the one with a number on, counted from 1
+module _ (between : ℕ) (bs : List ℕ) (from first : ℕ) (some : 1 ≤ first) where
+  abbrev asked : ℕ → ℕ → Bool
+  asked number i = ltb number first || stands_behind between (get_or bs (i - 1) 0) (get_or bs i 0)
+
+  abbrev pub run-asked : ℕ → Bool
+  run-asked zero = asked 1 from
+  run-asked (suc k) = run-asked k && asked (suc (suc k)) (from + suc k)
+
+  asked-here : (number i : ℕ) → first ≤ number → asked number i ≡ true → stands_behind between (get_or bs (i - 1) 0) (get_or bs i 0) ≡ true
+  asked-here number i l h = by_cases (ltb number first) (λ t. absurd (omega (arith, ltb-true number first t))) (λ t. rw t at h)
+
+  pub run-behind : (k : ℕ) → run-asked k ≡ true → Behind between bs (from + first - 1) (from + suc k)
+  run-behind zero h i f g = let e : i ≡ from = omega arith in rw e (asked-here 1 from (omega arith) h)
+  run-behind (suc k) h i f g =
+      by_cases (ltb i (from + suc k))
+      (λ t. run-behind k (and_left (run-asked k) (asked (suc (suc k)) (from + suc k)) h) i f (ltb-true i (from + suc k) t))
+      (λ t.
+      let e : i ≡ from + suc k = omega (arith, ltb-false i (from + suc k) t) in
+      rw e (asked-here (suc (suc k)) (from + suc k) (omega arith) (and_right (run-asked k) (asked (suc (suc k)) (from + suc k)) h)))
+
+-- one more byte behind those that may stand
+module _ (between : ℕ) (bs : List ℕ) (from to : ℕ) where
+  pub behind-next : Behind between bs from to → stands_behind between (get_or bs (to - 1) 0) (get_or bs to 0) ≡ true → Behind between bs from (to + 1)
+  behind-next h t i f g = by_cases (ltb i to) (λ l. h i f (ltb-true i to l)) (λ l. let e : i ≡ to = omega (arith, ltb-false i to l) in rw e t)
 
 -- a clause's name is one word: what stands between its parts is of the word
 word_of : (w : Bool) (b : ℕ) → (is_word b || eqb b 95 && w) ≡ true → is_word b ≡ true
@@ -101,29 +118,6 @@ directive-reads d c = record { goes = λ k w b t. rw t; ends = λ w b t. rw t }
 pub clause-reads : (c : ℕ) → Reads 95 (λ k w. ClauseName k c) (clauses_left c)
 clause-reads c = record { goes = λ k w b t. rw (word_of w b t); ends = λ w b t. rw t }
 
--- a name as it stands in the book
-record NameAt (between : ℕ) (bs : List ℕ) (start end : ℕ) : Type 0 where
-  first : is_word (get_or bs start 0) ≡ true
-  inner : Standing between bs (start + 1) end
-  last : is_word (get_or bs (end - 1) 0) ≡ true
-
-module _ (between : ℕ) (bs : List ℕ) (start end : ℕ) (l : start < end) (h : end ≤ length bs) where
-  abbrev name : List ℕ
-  name = take (end - start) (drop start bs)
-
-  long : length name ≡ end - start
-  long = let a : length (drop start bs) ≡ length bs - start = length-drop start bs in length-take-le (end - start) (drop start bs) (omega arith)
-
-  byte : (i j : ℕ) → i < end - start → j ≡ start + i → get_or name i 0 ≡ get_or bs j 0
-  byte i j k e = rw e (get_or-take (end - start) (drop start bs) i 0 k ∙ get_or-drop start bs i 0)
-
-  name-at : IsName between name → NameAt between bs start end
-  name-at n = record {
-    first = rw (byte 0 start (omega arith) (omega arith)) at n.first;
-    inner = λ i f g. rw (byte (i - start - 1) (i - 1) (omega arith) (omega arith), byte (i - start) i (omega arith) (omega arith)) at (n.inner (i - start) (omega arith) (omega (arith, long)));
-    last = rw (long, byte (end - start - 1) (end - 1) (omega arith) (omega arith)) at n.last;
-  }
-
 module _ (bs : List ℕ) (between : ℕ) (state : ℕ → Bool → Expect) (behind : Expect) (r : Reads between state behind) where
   -- k bytes of a name behind its first, and its last one, lead to what comes behind it
   passes : (k at to : ℕ) → to ≡ at + k + 1 → to ≤ length bs → Standing between bs at (at + k) → is_word (get_or bs (at + k) 0) ≡ true
@@ -138,7 +132,7 @@ module _ (bs : List ℕ) (between : ℕ) (state : ℕ → Bool → Expect) (behi
       ∙ rw p at (passes k (at + 1) to (omega arith) h (λ i f g. s i (omega arith) (omega arith)) (rw q at l))
 
   -- a whole name
-  whole : (k at to : ℕ) → to ≡ at + k + 1 → to ≤ length bs → NameAt between bs at to → bad_from (state k false) at (drop at bs) ≡ bad_from behind to (drop to bs)
+  whole : (k at to : ℕ) → to ≡ at + k + 1 → to ≤ length bs → IsName between at to bs → bad_from (state k false) at (drop at bs) ≡ bad_from behind to (drop to bs)
   whole zero at to e h n =
       let q : to ≡ at + 1 = omega arith in
       rw q (bad-later bs (state zero false) at behind (omega arith) (r.ends false (get_or bs at 0) n.first))
@@ -158,7 +152,7 @@ module _ (bs : List ℕ) where
       record {
         within = l;
         same = λ n c. bad-later bs (DirectiveLength n c) at (DirectiveName (get_or bs at 0 - 1) false n c) (omega arith) (rw h.sized refl)
-            ∙ whole bs 32 (λ k w. DirectiveName k w n c) (directives_left n c) (directive-reads n c) (get_or bs at 0 - 1) (at + 1) end (omega arith) l (name-at 32 bs (at + 1) end (omega arith) l h.name);
+            ∙ whole bs 32 (λ k w. DirectiveName k w n c) (directives_left n c) (directive-reads n c) (get_or bs at 0 - 1) (at + 1) end (omega arith) l h.name;
       }
 
   pub clause-passed : (at end : ℕ) → is_known (rule_for (get_or bs at 0)) ≡ true → NameEnds 95 (at + 1) end bs → Passed Clause at end bs
@@ -170,5 +164,5 @@ module _ (bs : List ℕ) where
         within = l;
         same = λ n c. bad-later bs (Rule n) at (ClauseLength n) (omega arith) (rw k refl)
             ∙ bad-later bs (ClauseLength n) (at + 1) (ClauseName (get_or bs (at + 1) 0 - 1) n) (omega arith) (rw h.sized refl)
-            ∙ whole bs 95 (λ k w. ClauseName k n) (clauses_left n) (clause-reads n) (get_or bs (at + 1) 0 - 1) (at + 1 + 1) end (omega arith) l (name-at 95 bs (at + 1 + 1) end (omega arith) l h.name);
+            ∙ whole bs 95 (λ k w. ClauseName k n) (clauses_left n) (clause-reads n) (get_or bs (at + 1) 0 - 1) (at + 1 + 1) end (omega arith) l h.name;
       }

@@ -1,14 +1,14 @@
-// Entries whose form is right, passed at once. Nearly every entry of a book is, and what its bytes may be is asked of eight of them in one branch.
+// Entries whose form is right, passed at once. Nearly every entry of a book is, and what its bytes may be is asked of sixteen of them in one branch.
 ghost use Rattle.std.specs.Prelude.{◌≡◌, true, ◌+◌, ◌-◌, ◌<◌, ◌≤◌, length, drop, get_or, IfSome};
 ghost use Rattle.ascii.specs.Ascii.{is_word};
 ghost use Rattle.bookform.specs.Format.{directives_left, bad_from};
-ghost use Rattle.bookform.specs.Standing.{is_of_name, stands_behind, Standing, IsName, NameEnds, Passed, waits};
+ghost use Rattle.bookform.specs.Standing.{stands_behind, Behind, IsName, NameEnds, Passed, waits};
 
 use crate::format::{clauses_left, directives_left, is_header, is_length, is_rule};
 use crate::{Entries, EntryKind, Expect, Waiting};
 use ascii::class::{is_letter, is_word};
 
-// A byte of a word, asked without a branch: so the compiler asks it of eight at once. For this speed it stands beside `ascii::class::is_word`, which branches.
+// A byte of a word, asked without a branch: so the compiler asks it of sixteen at once. For this speed it stands beside `ascii::class::is_word`, which branches.
 fn is_of_word(b: u8) -> bool
     ensures { result ≡ is_word b }
 {
@@ -22,97 +22,90 @@ fn stands_behind(before: u8, b: u8, between: u8) -> bool
     is_of_word(b) | ((b == between) & (before != between))
 }
 
-// Whether each of the eight bytes of a name from a place on may stand behind the one before it. All are asked and no branch is between them,
-// so that the compiler asks them at once.
-fn eight_stand(name: &[u8], at: usize, between: u8) -> bool
-    requires { (1 ≤ at) × (at + 8 ≤ length name.now) × (is_of_name between (get_or name.now (at - 1) 0) ≡ true) }
-    ensures { result ≡ true → Standing between name.now at (at + 8) }
+// The same of the byte at a place of a book and the one before it.
+fn stands_at<const BETWEEN: u8>(book: &[u8], at: usize) -> bool
+    requires { (1 ≤ at) × (at < length book.now) }
+    ensures { result ≡ stands_behind BETWEEN (get_or book.now (at - 1) 0) (get_or book.now at 0) }
 {
-    let a = name[at];
-    let b = name[at + 1];
-    let c = name[at + 2];
-    let d = name[at + 3];
-    let e = name[at + 4];
-    let f = name[at + 5];
-    let g = name[at + 6];
-    stands_behind(name[at - 1], a, between)
-        & stands_behind(a, b, between)
-        & stands_behind(b, c, between)
-        & stands_behind(c, d, between)
-        & stands_behind(d, e, between)
-        & stands_behind(e, f, between)
-        & stands_behind(f, g, between)
-        & stands_behind(g, name[at + 7], between)
+    stands_behind(book[at - 1], book[at], BETWEEN)
 }
 
-// Whether each byte of a name behind its first may stand behind the one before it, eight at a time. They are asked in one place, so that the
-// compiler draws the question in.
-fn eights_stand(name: &[u8], between: u8) -> bool
-    requires { (9 ≤ length name.now) × (is_word (get_or name.now 0 0) ≡ true) }
-    ensures { result ≡ true → Standing between name.now 1 (length name.now) }
+// Whether each of the sixteen bytes of a book from a place on may stand behind the one before it, but for those before the first that is asked: they
+// are numbered from 1, as the compiler takes no comparison with 0 together with the others. All are asked and no branch is between them, so that
+// the compiler asks them at once.
+fn sixteen_stand<const BETWEEN: u8>(book: &[u8], from: usize, first: u8) -> bool
+    requires { (1 ≤ from) × (from + 16 ≤ length book.now) × (1 ≤ first) }
+    ensures { result ≡ true → Behind BETWEEN book.now (from + first - 1) (from + 16) }
 {
-    let last = name.len() - 8;
-    // by eights; the last eight may overlap those before
-    for i in (1..name.len()).step_by(8) {
-        let at = i.min(last);
-        if !eight_stand(name, at, between) {
+    ((1 < first) | stands_at::<BETWEEN>(book, from))
+        & ((2 < first) | stands_at::<BETWEEN>(book, from + 1))
+        & ((3 < first) | stands_at::<BETWEEN>(book, from + 2))
+        & ((4 < first) | stands_at::<BETWEEN>(book, from + 3))
+        & ((5 < first) | stands_at::<BETWEEN>(book, from + 4))
+        & ((6 < first) | stands_at::<BETWEEN>(book, from + 5))
+        & ((7 < first) | stands_at::<BETWEEN>(book, from + 6))
+        & ((8 < first) | stands_at::<BETWEEN>(book, from + 7))
+        & ((9 < first) | stands_at::<BETWEEN>(book, from + 8))
+        & ((10 < first) | stands_at::<BETWEEN>(book, from + 9))
+        & ((11 < first) | stands_at::<BETWEEN>(book, from + 10))
+        & ((12 < first) | stands_at::<BETWEEN>(book, from + 11))
+        & ((13 < first) | stands_at::<BETWEEN>(book, from + 12))
+        & ((14 < first) | stands_at::<BETWEEN>(book, from + 13))
+        & ((15 < first) | stands_at::<BETWEEN>(book, from + 14))
+        & ((16 < first) | stands_at::<BETWEEN>(book, from + 15))
+}
+
+// The same between two places, byte by byte.
+fn each_stands<const BETWEEN: u8>(book: &[u8], start: usize, end: usize) -> bool
+    requires { (1 ≤ start) × (end ≤ length book.now) }
+    ensures { result ≡ true → Behind BETWEEN book.now start end }
+{
+    for at in start..end {
+        if !stands_at::<BETWEEN>(book, at) {
             return false;
         }
     }
     true
 }
 
-// As `stands_behind`, but by branches, beside it for speed where one byte is asked: most bytes are letters, and the first comparison tells those.
-fn one_stands(before: u8, b: u8, between: u8) -> bool
-    ensures { result ≡ stands_behind between before b }
+// The same by sixteens from the end on, of which the last may begin before the start. Only the first entry of a book has too few bytes before it.
+fn all_stand<const BETWEEN: u8>(book: &[u8], start: usize, end: usize) -> bool
+    requires { (1 ≤ start) × (start ≤ end) × (end ≤ length book.now) }
+    ensures { result ≡ true → Behind BETWEEN book.now start end }
 {
-    is_word(b) || (b == between && before != between)
-}
-
-// As `eights_stand`, but byte by byte and by branches, beside it for speed: a short name has no eight bytes to ask at once.
-fn each_stands(name: &[u8], between: u8) -> bool
-    requires { (1 ≤ length name.now) × (is_word (get_or name.now 0 0) ≡ true) }
-    ensures { result ≡ true → Standing between name.now 1 (length name.now) }
-{
-    let mut before = name[0];
-    for b in &name[1..] {
-        if !one_stands(before, *b, between) {
+    let mut left = end;
+    while start < left {
+        if left < 17 {
+            return each_stands::<BETWEEN>(book, start, left);
+        }
+        let from = left - 16;
+        let next = start.max(from);
+        if !sixteen_stand::<BETWEEN>(book, from, (next - from + 1) as u8) {
             return false;
         }
-        before = *b;
+        left = next;
     }
     true
 }
 
-// As `eights_stand` and `each_stands`, for a name of any length. No struct holds what the three require of a name: they are one function, in three for speed.
-fn all_stand(name: &[u8], between: u8) -> bool
-    requires { (1 ≤ length name.now) × (is_word (get_or name.now 0 0) ≡ true) }
-    ensures { result ≡ true → Standing between name.now 1 (length name.now) }
+// Whether what stands between two places is a name: words, and between two of them one byte, which is known when this is compiled.
+fn is_name<const BETWEEN: u8>(book: &[u8], start: usize, end: usize) -> bool
+    requires { (start < end) × (end ≤ length book.now) }
+    ensures { result ≡ true → IsName BETWEEN start end book.now }
 {
-    if name.len() < 9 {
-        return each_stands(name, between);
-    }
-    eights_stand(name, between)
-}
-
-// Whether a text is a name: words, and between two of them one byte.
-fn is_name(text: &[u8], between: u8) -> bool
-    requires { 1 ≤ length text.now }
-    ensures { result ≡ true → IsName between text.now }
-{
-    is_word(text[0]) && all_stand(text, between) && is_word(text[text.len() - 1])
+    is_word(book[start]) && all_stand::<BETWEEN>(book, start + 1, end) && is_word(book[end - 1])
 }
 
 // The end of the name behind the length byte at a place, if both are right.
-fn name_end(book: &[u8], place: usize, between: u8) -> Option<usize>
-    ensures { IfSome result (λ end. NameEnds between place end book.now) }
+fn name_end<const BETWEEN: u8>(book: &[u8], place: usize) -> Option<usize>
+    ensures { IfSome result (λ end. NameEnds BETWEEN place end book.now) }
 {
     let size = *book.get(place)?;
     let length = usize::from(size);
     if is_length(size) && length < book.len() - place {
         let start = place + 1;
         let end = start + length;
-        if is_name(&book[start..end], between) {
+        if is_name::<BETWEEN>(book, start, end) {
             return Some(end);
         }
     }
@@ -125,12 +118,12 @@ fn entry_end(book: &[u8], kind: EntryKind, at: usize) -> Option<usize>
     ensures { IfSome result (λ end. Passed kind at end book.now) }
 {
     match kind {
-        EntryKind::Directive => name_end(book, at, b' '),
+        EntryKind::Directive => name_end::<b' '>(book, at),
         EntryKind::Clause => {
             if !is_rule(*book.get(at)?) {
                 return None;
             }
-            name_end(book, at + 1, b'_')
+            name_end::<b'_'>(book, at + 1)
         }
     }
 }

@@ -1,10 +1,6 @@
--- `bookform::passing::each_stands`: a turn adds a byte to the run; the one before is of the name.
-use Rattle.std.proofs.Common.{◌≡◌, ◌+◌, true, get_or}
-use Rattle.bookform.specs.Standing.{is_of_name, Standing}
+-- `bookform::passing::each_stands`: a turn adds a byte to the run.
+use Rattle.bookform.specs.Standing.{Behind}
 use Rattle.bookform.proofs.passing.each_stands.Given as goal
 
-abbrev pub invariant-loop-b : goal.invariant-loop-b
-invariant-loop-b l =
-    (l.before ≡ get_or l.name l.b-index 0)
-    × (is_of_name l.between l.before ≡ true)
-    × Standing l.between l.name 1 (l.b-index + 1)
+abbrev pub invariant-loop-at : goal.invariant-loop-at
+invariant-loop-at g l = Behind g.row.BETWEEN l.book l.start l.at
