@@ -66,11 +66,16 @@ module _ (between : ℕ) (bs : List ℕ) (from : ℕ) (first : is_of_name betwee
   all-stand to h i f g = run-stands (to - from) (λ j l m. h j l (omega arith)) i f (omega arith)
 
 -- so those between a first byte of a word and a last one are a name
-pub name-stands : (between : ℕ) (bs : List ℕ) (start end : ℕ) → is_word (get_or bs start 0) ≡ true → Behind between bs (start + 1) end
+pub name-stands : (between : ℕ) (bs : List ℕ) (start end : ℕ) → is_word (get_or bs start 0) ≡ true → Behind between bs (start + 1) (end - 1)
     → is_word (get_or bs (end - 1) 0) ≡ true → IsName between start end bs
-name-stands between bs start end f h l =
-    let p : start + 1 - 1 ≡ start = omega arith in
-    record { first = f; inner = all-stand between bs (start + 1) (rw (p, f)) end h; last = l }
+name-stands between bs start end f h l = record { first = f; inner = inner; last = l }
+  where
+    inner : Standing between bs (start + 1) end
+    inner i g k =
+        let p : start + 1 - 1 ≡ start = omega arith in
+        by_cases (ltb i (end - 1))
+        (λ t. all-stand between bs (start + 1) (rw (p, f)) (end - 1) h i g (ltb-true i (end - 1) t))
+        (λ t. let e : i ≡ end - 1 = omega (arith, ltb-false i (end - 1) t) in rw (e, l))
 
 -- bytes from a place on, asked from the one with a number on, counted from 1
 module _ (between : ℕ) (bs : List ℕ) (from first : ℕ) (some : 1 ≤ first) where

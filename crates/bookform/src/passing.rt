@@ -70,7 +70,7 @@ fn each_stands<const BETWEEN: u8>(book: &[u8], start: usize, end: usize) -> bool
 
 // The same by sixteens from the end on, of which the last may begin before the start. Only the first entry of a book has too few bytes before it.
 fn all_stand<const BETWEEN: u8>(book: &[u8], start: usize, end: usize) -> bool
-    requires { (1 ≤ start) × (start ≤ end) × (end ≤ length book.now) }
+    requires { (1 ≤ start) × (end ≤ length book.now) }
     ensures { result ≡ true → Behind BETWEEN book.now start end }
 {
     let mut left = end;
@@ -88,12 +88,13 @@ fn all_stand<const BETWEEN: u8>(book: &[u8], start: usize, end: usize) -> bool
     true
 }
 
-// Whether what stands between two places is a name: words, and between two of them one byte, which is known when this is compiled.
+// Whether what stands between two places is a name: words, and between two of them one byte, which is known when this is compiled. A last byte of a word
+// may stand behind any, so a name of up to 18 bytes is asked in one branch.
 fn is_name<const BETWEEN: u8>(book: &[u8], start: usize, end: usize) -> bool
     requires { (start < end) × (end ≤ length book.now) }
     ensures { result ≡ true → IsName BETWEEN start end book.now }
 {
-    is_word(book[start]) && all_stand::<BETWEEN>(book, start + 1, end) && is_word(book[end - 1])
+    is_word(book[start]) && all_stand::<BETWEEN>(book, start + 1, end - 1) && is_word(book[end - 1])
 }
 
 // The end of the name behind the length byte at a place, if both are right.
