@@ -3,7 +3,7 @@
 use mathlib.Core.Path.{◌≡◌, refl, ◌∙◌}
 use mathlib.Core.Bool.{Bool, true, false, not, ◌&&◌, ◌||◌}
 use mathlib.Core.List.{List}
-use Prim.Native.Nat.{ℕ, zero, suc, ◌+◌, ◌-◌, ◌≤◌}
+use Prim.Native.Nat.{ℕ, zero, suc, ◌+◌, ◌-◌, ◌<◌, ◌≤◌}
 use native.Mathlib.Nat.{add-zero}
 use native.Mathlib.Omega.{arith}
 use lib.ListN.{length, drop, get_or}
@@ -38,13 +38,10 @@ stands_of between before b h = go (is_word b) (eqb b between) (is_word before) h
     go false true v h = refl
     go false false v h = h
 
-module _ (between : ℕ) (bs : List ℕ) (from : ℕ) where
-  -- none, and one byte more
-  pub standing-none : (to : ℕ) → to ≤ from → Standing between bs from to
-  standing-none to h i f g = absurd (omega arith)
-
-  pub standing-more : (to : ℕ) → stands between (get_or bs (to - 1) 0) (get_or bs to 0) ≡ true → Standing between bs from to → Standing between bs from (to + 1)
-  standing-more to t s i f g = by_cases (ltb i to) (λ l. s i f (ltb-true i to l)) (λ l. let e : i ≡ to = omega (arith, ltb-false i to l) in rw e t)
+-- what holds of the places up to one, and of that one
+pub one_more : (P : ℕ → Type 0) (from to : ℕ) → ((i : ℕ) → from ≤ i → i < to → P i) → P to → (i : ℕ) → from ≤ i → i < to + 1 → P i
+one_more P from to h t i f g =
+    by_cases (ltb i to) (λ l. h i f (ltb-true i to l)) (λ l. let e : i ≡ to = omega (arith, ltb-false i to l) in rw e t)
 
 -- bytes of which each may stand behind the one before, where the one before the first is of a name
 module _ (between : ℕ) (bs : List ℕ) (from : ℕ) (first : is_of_name between (get_or bs (from - 1) 0) ≡ true) where
@@ -55,12 +52,12 @@ module _ (between : ℕ) (bs : List ℕ) (from : ℕ) (first : is_of_name betwee
       rw e (stands_of between (get_or bs (from + k - 1) 0) (get_or bs (from + k) 0) (s (from + k) (omega arith) (omega arith)))
 
   run-stands : (k : ℕ) → Behind between bs from (from + k) → Standing between bs from (from + k)
-  run-stands zero h = standing-none between bs from (from + zero) (omega arith)
+  run-stands zero h = λ i f g. absurd (omega arith)
   run-stands (suc k) h =
       let n : from + k + 1 ≡ from + suc k = omega arith in
       let s = run-stands k (λ i f g. h i f (omega arith)) in
-      rw n at (standing-more between bs from (from + k)
-      (behind-stands between (get_or bs (from + k - 1) 0) (get_or bs (from + k) 0) (before k s) (h (from + k) (omega arith) (omega arith))) s)
+      rw n at (one_more (λ i. stands between (get_or bs (i - 1) 0) (get_or bs i 0) ≡ true) from (from + k) s
+      (behind-stands between (get_or bs (from + k - 1) 0) (get_or bs (from + k) 0) (before k s) (h (from + k) (omega arith) (omega arith))))
 
   all-stand : (to : ℕ) → Behind between bs from to → Standing between bs from to
   all-stand to h i f g = run-stands (to - from) (λ j l m. h j l (omega arith)) i f (omega arith)
@@ -97,11 +94,6 @@ module _ (between : ℕ) (bs : List ℕ) (from first : ℕ) (some : 1 ≤ first)
       (λ t.
       let e : i ≡ from + suc k = omega (arith, ltb-false i (from + suc k) t) in
       rw e (asked-here (suc (suc k)) (from + suc k) (omega arith) (and_right (run-asked k) (asked (suc (suc k)) (from + suc k)) h)))
-
--- one more byte behind those that may stand
-module _ (between : ℕ) (bs : List ℕ) (from to : ℕ) where
-  pub behind-next : Behind between bs from to → stands_behind between (get_or bs (to - 1) 0) (get_or bs to 0) ≡ true → Behind between bs from (to + 1)
-  behind-next h t i f g = by_cases (ltb i to) (λ l. h i f (ltb-true i to l)) (λ l. let e : i ≡ to = omega (arith, ltb-false i to l) in rw e t)
 
 -- a clause's name is one word: what stands between its parts is of the word
 word_of : (w : Bool) (b : ℕ) → (is_word b || eqb b 95 && w) ≡ true → is_word b ≡ true
