@@ -1,8 +1,9 @@
 -- Laws of code bytes at a place of a text, in the terms of the loops that walk it.
 -- Assumes nothing.
-use mathlib.Core.Path.{◌≡◌, refl, ap, ◌∙◌}
+use mathlib.Core.Path.{◌≡◌, refl, sym, ap, ◌∙◌}
 use mathlib.Core.Bool.{Bool, true, false, cond, not, ◌&&◌, ◌||◌}
 use Rattle.std.specs.Prelude.{Option, Some, None}
+use Rattle.std.proofs.Common.{◌⊎◌, inl, inr}
 use mathlib.Core.List.{List, [], ◌∷◌}
 use Prim.Native.Nat.{ℕ, zero, suc, ◌+◌, ◌-◌, ◌<◌, ◌≤◌}
 use native.Mathlib.Nat.{add-zero}
@@ -15,9 +16,10 @@ use lib.Seq.{drop-cons, drop-drop, get_or-drop}
 use Rattle.ascii.specs.Ascii.{is_eol}
 use Rattle.ascii.specs.Text.{up_to}
 use Rattle.code.specs.declared.CommentStyle.{CommentStyle}
+use Rattle.code.specs.declared.Piece.{Piece}
 use Rattle.code.specs.declared.Piece.TheVariants.{Code, Hidden, OpenQuote, OpenComment}
 use Rattle.code.specs.declared.Unclosed.TheVariants.{Quote, Comment}
-use Rattle.code.specs.Code.{is_c_like, is_fortran, hides_next, more, literal, block_end, quoted, commented, slashed, banged, piece, rest, placed, scan_from, scan_at, onward}
+use Rattle.code.specs.Code.{Scan, is_c_like, is_fortran, hides_next, more, literal, block_end, quoted, commented, slashed, banged, piece, rest, placed, scan_from, scan_at, onward}
 
 pub more-more : (a b : ℕ) (o : Option ℕ) → more a (more b o) ≡ more (a + b) o
 more-more a b None = refl
@@ -156,3 +158,12 @@ module _ (style : CommentStyle) (s : List ℕ) (i : ℕ) where
   pub onward-end : length s ≤ i → onward style s i ≡ []
   unfolding onward
   onward-end h = rw (le-ltb i (length s) h) refl
+
+  -- where a byte of code stands, the code bytes from there are those that begin with it
+  pub codes-at : i < length s → piece style (drop i s) ≡ Code → (scan_at style s i).codes ≡ onward style s i
+  codes-at h e = ap (λ (x : Scan). x.codes) (scan-code h e) ∙ sym (onward-code h)
+
+  -- none behind a literal or comment without an end
+  pub codes-none : (p : Piece) → i < length s → piece style (drop i s) ≡ p → (p ≡ OpenQuote) ⊎ (p ≡ OpenComment) → (scan_at style s i).codes ≡ []
+  codes-none p h e (inl q) = ap (λ (x : Scan). x.codes) (scan-quote h (e ∙ q))
+  codes-none p h e (inr q) = ap (λ (x : Scan). x.codes) (scan-comment h (e ∙ q))
