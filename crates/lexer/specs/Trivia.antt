@@ -1,5 +1,5 @@
 -- Trivia: white space, continuations and comments between words (`skip_language_trivia`).
-use Rattle.std.specs.Prelude.{ℕ, zero, suc, ◌+◌, ◌<◌, ◌≤◌, Bool, true, false, cond, ◌&&◌, List, [], ◌∷◌, ◌≡◌, drop, get_or, eqb, ltb, Option, Some, None, Result, Ok, Err}
+use Rattle.std.specs.Prelude.{ℕ, zero, suc, ◌+◌, ◌<◌, ◌≤◌, Bool, true, false, cond, not, ◌&&◌, ◌||◌, List, [], ◌∷◌, ◌≡◌, drop, get_or, eqb, ltb, Option, Some, None, Result, Ok, Err}
 use Rattle.ascii.specs.Ascii.{is_space}
 use Rattle.ascii.specs.Text.{up_to}
 use Rattle.code.specs.Code.{block_end, more}
@@ -62,3 +62,7 @@ abbrev pub Fits : ℕ → Result (Option ℕ) NoEnd → Type 0
 Fits n (Ok (Some k)) = (0 < k) × (k ≤ n)
 Fits n (Ok None) = Unit {0}
 Fits n (Err e) = Unit {0}
+
+-- a byte with which no trivia of either language begins, and no control: a matter of speed
+abbrev pub is_solid : ℕ → Bool
+is_solid b = ltb 32 b && not (eqb b 33 || eqb b 38 || eqb b 47 || eqb b 92)

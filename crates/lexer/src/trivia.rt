@@ -2,7 +2,7 @@
 ghost use Rattle.std.specs.Prelude.{◌≡◌, ◌≤◌, not, length, IfSome};
 ghost use Rattle.ascii.specs.Text.{up_to};
 ghost use Rattle.lexer.specs.Continuation.{if_any};
-ghost use Rattle.lexer.specs.Trivia.{is_line_feed, trivia_c, trivia_f, trivia_of, Stretch, skip as skip_of, Inside, Fits};
+ghost use Rattle.lexer.specs.Trivia.{is_line_feed, trivia_c, trivia_f, trivia_of, Stretch, is_solid, skip as skip_of, Inside, Fits};
 
 use crate::continuation;
 use ascii::sets::ByteSet;
@@ -76,8 +76,16 @@ fn trivia_of(rest: &[u8], fortran: bool) -> Result<Option<usize>, NoEnd>
     }
 }
 
-// The place after all trivia from a place on; refused at a comment without an end.
-pub fn skip(text: &[u8], at: usize, fortran: bool) -> Result<usize, Refusal>
+// Whether no trivia of either language begins with a byte, by comparisons alone.
+fn is_solid(b: u8) -> bool
+    ensures { result ≡ is_solid b }
+{
+    (b' ' < b) & !((b == b'!') | (b == b'&') | (b == b'/') | (b == b'\\'))
+}
+
+// What `skip` gives, by a walk over the trivia.
+#[inline(never)]
+fn skip_all(text: &[u8], at: usize, fortran: bool) -> Result<usize, Refusal>
     requires { at ≤ length text.now }
     ensures value { result ≡ skip_of fortran text.now at }
     ensures inside { Inside at (length text.now) result }
@@ -92,4 +100,23 @@ pub fn skip(text: &[u8], at: usize, fortran: bool) -> Result<usize, Refusal>
         }
     }
     Ok(i)
+}
+
+// The place after all trivia from a place on; refused at a comment without an end. Mostly there is none, or one blank: this is asked apart from the walk, so
+// that the compiler draws it into each caller.
+pub fn skip(text: &[u8], at: usize, fortran: bool) -> Result<usize, Refusal>
+    requires { at ≤ length text.now }
+    ensures value { result ≡ skip_of fortran text.now at }
+    ensures inside { Inside at (length text.now) result }
+{
+    if at == text.len() {
+        return Ok(at);
+    }
+    if is_solid(text[at]) {
+        return Ok(at);
+    }
+    if text[at] == b' ' && is_solid(ascii::byte_at(text, at + 1)) {
+        return Ok(at + 1);
+    }
+    skip_all(text, at, fortran)
 }
