@@ -132,15 +132,16 @@ impl ClauseWord<'_> {
         self.bare()
     }
 
-    // The clause of the word, by its rule.
+    // The clause of the word, by its rule. Two rules share one call, so that the compiler draws it in.
     fn argument(&self, rule: ClauseRule) -> Result<ClauseRead, ClauseError>
         ensures { result ≡ argument_of self.now.fortran self.now.text.now self.now.start self.now.end self.now.entry
             rule (skip self.now.fortran self.now.text.now self.now.end) }
     {
         match rule {
             ClauseRule::Bare => self.bare(),
-            ClauseRule::Parenthesized => self.with_argument(true),
-            ClauseRule::Flexible => self.with_argument(false),
+            ClauseRule::Parenthesized | ClauseRule::Flexible => {
+                self.with_argument(matches!(rule, ClauseRule::Parenthesized))
+            }
             ClauseRule::Unsupported => Err(ClauseError::Failed(Reason::NoClause.at(self.end))),
         }
     }
