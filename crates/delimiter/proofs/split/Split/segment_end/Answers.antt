@@ -1,6 +1,6 @@
 -- `Split::segment_end` meets its contract: a turn takes one byte of code, and the split of what is left stays the same.
 use Rattle.std.proofs.Common.{sym, ◌∙◌, arith}
-use Rattle.delimiter.proofs.SplitLaws.{split-refused, split-mark, split_goes, split-ends, split-last, split-open}
+use Rattle.delimiter.proofs.SplitLaws.{split-refused, split-mark, split_goes, split-ends, split-last, split-open, ends-empty}
 use Rattle.delimiter.proofs.split.Split.segment_end.Goals as goal
 
 pub returns-in-Err-clause-by_index : goal.returns-in-Err-clause-by_index
@@ -30,6 +30,9 @@ loop-i-preserved c =
 pub returns-in-None-clause-by_index : goal.returns-in-None-clause-by_index
 returns-in-None-clause-by_index c = λ room.
     c.loop-i.invariant.3 room ∙ split-ends _ _ _ _ _ _ _ c.loop-i-test.true (sym c.is_mark.ensures ∙ c.if-is_mark.false) (sym (rw c.is_empty.ensures at c.in-None.ensures.value))
+
+pub returns-in-None-clause-closed : goal.returns-in-None-clause-closed
+returns-in-None-clause-closed c = ends-empty _ _ _ _ _ _ (sym (rw c.is_empty.ensures at c.in-None.ensures.value))
 
 pub returns-then-is_empty-clause-by_index : goal.returns-then-is_empty-clause-by_index
 returns-then-is_empty-clause-by_index c = λ room.

@@ -15,13 +15,14 @@ loop-from-preserved c =
     let h : t.k + t.k + 1 < length t.items = omega (arith, lies, halves size) in (
       omega (arith, lies),
       omega (arith, lies),
+      c.in_ok-item.ensures.closed,
       rw (c.put_item.ensures, c.byte-before.ensures, e)
           (sym (laid-item t.items t.k c.in_ok-item.item
           (remaining s.style s.text.now s.separator s.angles (size / 2 - t.k - 1) (separator_byte s.separator) (c.in_ok-item.end + 1)) h)
-          ∙ sym (ap (laid (take (t.k + t.k) t.items)) c.in_ok-item.ensures.from_value) ∙ t.invariant.2),
+          ∙ sym (ap (laid (take (t.k + t.k) t.items)) c.in_ok-item.ensures.from_value) ∙ t.invariant.3),
     )
 
 pub returns-clause-after : goal.returns-clause-after
 returns-clause-after c =
     let past : length c.args.self.now.text.now < c.loop-from.from = c.loop-from-test.false in
-    rw (remaining-out, laid_none) at c.loop-from.invariant.2
+    rw (remaining-out, laid_none) at c.loop-from.invariant.3

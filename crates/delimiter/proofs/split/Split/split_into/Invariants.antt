@@ -7,6 +7,7 @@ abbrev pub invariant-loop-from : goal.invariant-loop-from
 invariant-loop-from l =
     (l.k ≤ l.room)
     × (l.from ≤ length l.self.text.now + 1)
+    × (l.«open» ≡ [])
     × (laid (take (l.k + l.k) l.items) (remaining l.self.style l.self.text.now l.self.separator l.self.angles (l.room - l.k) l.before l.from)
     ≡ laid [] (remaining l.self.style l.self.text.now l.self.separator l.self.angles (length l.fn.items / 2) 0 0))
 
