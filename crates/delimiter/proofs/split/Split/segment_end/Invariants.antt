@@ -1,16 +1,17 @@
+-- `Split::segment_end`: a turn takes one byte of code behind words, and the split of what is left stays the same.
 use Rattle.std.proofs.Common.{◌≡◌, ℕ, ◌≤◌, ◌-◌, length}
-use Rattle.code.specs.Code.{scan_at, onward}
+use Rattle.code.specs.Code.{scan_at}
 use Rattle.delimiter.specs.Split.{fresh, split_from}
 use Rattle.delimiter.proofs.split.Split.segment_end.Given as goal
 
--- a turn takes one byte of code, and the split of what is left stays the same
-abbrev pub invariant-loop-i : goal.invariant-loop-i
-invariant-loop-i l =
-    (l.from ≤ l.i)
-    × (l.i ≤ length l.text)
-    × (l.ternary ≤ l.i)
-    × ((room : ℕ) → split_from l.text l.self.separator l.self.angles room (fresh l.before l.from) (scan_at l.self.style l.text l.from).codes
-    ≡ split_from l.text l.self.separator l.self.angles room (record { stack = l.«open»; ternary = l.ternary; previous = l.previous; start = l.from }) (onward l.self.style l.text l.i))
+abbrev pub invariant-bytes : goal.invariant-bytes
+invariant-bytes l = record {
+  lower : l.from ≤ l.i;
+  upper : l.i ≤ length l.text;
+  waits : l.ternary ≤ l.i;
+  same : (room : ℕ) → split_from l.text l.self.separator l.self.angles room (fresh l.before l.from) (scan_at l.self.style l.text l.from).codes
+      ≡ split_from l.text l.self.separator l.self.angles room (record { stack = l.«open»; ternary = l.ternary; previous = l.previous; start = l.from }) (scan_at l.self.style l.text l.i).codes;
+}
 
-abbrev pub decreases-loop-i : goal.decreases-loop-i
-decreases-loop-i l = length l.text - l.i
+abbrev pub decreases-bytes : goal.decreases-bytes
+decreases-bytes l = length l.text - l.i
