@@ -1,3 +1,4 @@
 pub mod SplitLaws
+pub mod CleanLaws
 pub mod CallLaws
 pub mod Languages

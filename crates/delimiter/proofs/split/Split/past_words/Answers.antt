@@ -6,6 +6,8 @@ use Rattle.code.proofs.FaultLaws.{plain_code}
 use Rattle.delimiter.specs.Split.{split_from}
 use Rattle.delimiter.specs.Cutting.{behind}
 use Rattle.delimiter.proofs.SplitLaws.{quiet-told, no-white, split-quiet, code-onward, open-onward, end-onward}
+use Rattle.code.proofs.MarkLaws.{clean-code}
+use Rattle.delimiter.proofs.CleanLaws.{clean-here, clean-over, clean-open, clean-end}
 use Rattle.delimiter.proofs.split.Split.past_words.Goals as goal
 
 pub loop-i-preserved-then-class_of-ne0 : goal.loop-i-preserved-then-class_of-ne0
@@ -15,6 +17,7 @@ loop-i-preserved-then-class_of-ne0 c =
     record {
       lower = omega arith;
       upper = omega arith;
+      passed = t.invariant.passed ∙ clean-code _ _ _ c.loop-i-test.true (plain_code _ _ _ c.loop-i-test.true q.plain);
       same = λ room st. rw c.solid-last.ensures (t.invariant.same room st ∙ split-quiet _ _ _ _ room (behind t.last st) _ c.loop-i-test.true q);
     }
 
@@ -25,6 +28,11 @@ returns-then-is_plain-clause-by_index c = λ room st.
     c.loop-i.invariant.same room st
     ∙ ap (split_from s.text.now s.separator s.angles room (behind c.loop-i.last st)) (code-onward _ _ _ h (plain_code _ _ _ h (sym c.is_plain.ensures ∙ c.if-is_plain.true)))
 
+pub returns-then-is_plain-clause-clean : goal.returns-then-is_plain-clause-clean
+returns-then-is_plain-clause-clean c =
+    let h = c.loop-i-test.true in
+    c.loop-i.invariant.passed ∙ clean-here _ _ _ h (plain_code _ _ _ h (sym c.is_plain.ensures ∙ c.if-is_plain.true))
+
 pub returns-then-is_plain-clause-no_white : goal.returns-then-is_plain-clause-no_white
 returns-then-is_plain-clause-no_white c = λ h. no-white _ (search rules) (sym c.class_of.ensures ∙ c.if-class_of-ne0.false)
 
@@ -33,6 +41,9 @@ returns-in-Code-clause-by_index c = λ room st.
     let s = c.args.self.now in
     c.loop-i.invariant.same room st
     ∙ ap (split_from s.text.now s.separator s.angles room (behind c.loop-i.last st)) (code-onward _ _ _ c.loop-i-test.true (sym c.in-Code.ensures.value))
+
+pub returns-in-Code-clause-clean : goal.returns-in-Code-clause-clean
+returns-in-Code-clause-clean c = c.loop-i.invariant.passed ∙ clean-here _ _ _ c.loop-i-test.true (sym c.in-Code.ensures.value)
 
 pub returns-in-Code-clause-no_white : goal.returns-in-Code-clause-no_white
 returns-in-Code-clause-no_white c = λ h. no-white _ (search rules) (sym c.class_of.ensures ∙ c.if-class_of-ne0.false)
@@ -45,7 +56,8 @@ loop-i-preserved c =
     let e = scan-hidden _ _ _ _ c.loop-i-test.true (sym c.in-Hidden.ensures.value) f.0 in
     record {
       lower = omega arith;
-      upper = f.1;
+      upper = omega (arith, f.1);
+      passed = t.invariant.passed ∙ clean-over _ _ _ _ c.loop-i-test.true (sym c.in-Hidden.ensures.value) f.0;
       same = λ room st. t.invariant.same room st ∙ ap (λ (x : Scan). split_from s.text.now s.separator s.angles room (behind t.last st) x.codes) e;
     }
 
@@ -55,8 +67,14 @@ returns-in-OpenQuote-clause-by_index c = λ room st.
     c.loop-i.invariant.same room st
     ∙ ap (split_from s.text.now s.separator s.angles room (behind c.loop-i.last st)) (open-onward _ _ _ _ c.loop-i-test.true (sym c.piece_at.ensures.value) c.in-OpenQuote.is)
 
+pub returns-in-OpenQuote-clause-clean : goal.returns-in-OpenQuote-clause-clean
+returns-in-OpenQuote-clause-clean c = c.loop-i.invariant.passed ∙ clean-open _ _ _ _ c.loop-i-test.true (sym c.piece_at.ensures.value) c.in-OpenQuote.is
+
 pub returns-clause-by_index : goal.returns-clause-by_index
 returns-clause-by_index c = λ room st.
     let s = c.args.self.now in
     c.loop-i.invariant.same room st
     ∙ ap (split_from s.text.now s.separator s.angles room (behind c.loop-i.last st)) (end-onward _ _ _ c.loop-i-test.false)
+
+pub returns-clause-clean : goal.returns-clause-clean
+returns-clause-clean c = c.loop-i.invariant.passed ∙ clean-end _ _ _ c.loop-i.invariant.upper c.loop-i-test.false

@@ -1,20 +1,29 @@
 -- `Split::segment_end` meets its contract: a turn takes one byte of code behind words, and the split of what is left stays the same.
 use Rattle.std.proofs.Common.{sym, ◌∙◌, arith}
-use Rattle.delimiter.proofs.SplitLaws.{solid-is, split-refused, split-mark, split_goes, split-ends, split-last, split-open, ends-empty}
+use Rattle.ascii.proofs.Flags.{and_right}
+use Rattle.delimiter.proofs.SplitLaws.{solid-is, empty-is, split-refused, split-mark, split_goes, split-ends, split-last, split-open, ends-empty}
+use Rattle.delimiter.proofs.CleanLaws.{clean-at, clean-last, not-last}
 use Rattle.delimiter.proofs.split.Split.segment_end.Goals as goal
 
-pub returns-then-is_empty-clause-by_index : goal.returns-then-is_empty-clause-by_index
-returns-then-is_empty-clause-by_index c = λ room.
+pub returns-then-at-text-clause-by_index : goal.returns-then-at-text-clause-by_index
+returns-then-at-text-clause-by_index c = λ clean room.
     c.bytes.invariant.same room ∙ c.past_words-at.ensures.by_index room (record { stack = c.bytes.«open»; ternary = c.bytes.ternary; previous = c.bytes.previous; start = c.args.from })
-    ∙ split-last _ _ _ _ _ _ _ c.if-text-at.true (sym c.is_empty.ensures ∙ c.if-is_empty.true)
+    ∙ split-last _ _ _ _ _ _ _ c.if-text-at.true (sym c.is_empty.ensures ∙ and_right _ _ c.if-at-text.true)
+
+pub returns-then-at-text-clause-passed : goal.returns-then-at-text-clause-passed
+returns-then-at-text-clause-passed c = c.bytes.invariant.passed ∙ c.past_words-at.ensures.clean ∙ clean-last _ _ _ _ c.if-at-text.true
+
+pub returns-then-at-text-clause-closed : goal.returns-then-at-text-clause-closed
+returns-then-at-text-clause-closed c = empty-is _ (sym c.is_empty.ensures ∙ and_right _ _ c.if-at-text.true)
 
 pub returns-then-text-at-clause-by_index : goal.returns-then-text-at-clause-by_index
-returns-then-text-at-clause-by_index c = λ room.
+returns-then-text-at-clause-by_index c = λ clean room.
     rw c.at.ensures (c.bytes.invariant.same room ∙ c.past_words-at.ensures.by_index room (record { stack = c.bytes.«open»; ternary = c.bytes.ternary; previous = c.bytes.previous; start = c.args.from })
-    ∙ split-open _ _ _ _ _ _ _ c.if-text-at.true (sym c.is_empty.ensures ∙ c.if-is_empty.false))
+    ∙ split-open _ _ _ _ _ _ _ c.if-text-at.true
+    (sym c.is_empty.ensures ∙ not-last _ _ _ _ c.if-text-at.true (sym (c.bytes.invariant.passed ∙ c.past_words-at.ensures.clean) ∙ clean) c.if-at-text.false))
 
 pub returns-in-Err-clause-by_index : goal.returns-in-Err-clause-by_index
-returns-in-Err-clause-by_index c = λ room.
+returns-in-Err-clause-by_index c = λ clean room.
     rw (c.at-in-Err.ensures, c.reason_of.ensures)
     (c.bytes.invariant.same room ∙ c.past_words-at.ensures.by_index room (record { stack = c.bytes.«open»; ternary = c.bytes.ternary; previous = c.bytes.previous; start = c.args.from })
     ∙ split-refused _ _ _ _ _ _ _ c.if-text-at.false c.in-Err.error _ c.in-Err.ensures)
@@ -25,6 +34,7 @@ bytes-preserved-in_default c =
     record {
       lower = omega arith;
       upper = omega arith;
+      passed = c.bytes.invariant.passed ∙ c.past_words-at.ensures.clean ∙ clean-at _ _ _ (omega (arith, h));
       waits = omega arith;
       same = λ room.
           c.bytes.invariant.same room ∙ c.past_words-at.ensures.by_index room (record { stack = c.bytes.«open»; ternary = c.bytes.ternary; previous = c.bytes.previous; start = c.args.from })
@@ -37,6 +47,7 @@ bytes-preserved c =
     record {
       lower = omega arith;
       upper = omega arith;
+      passed = c.bytes.invariant.passed ∙ c.past_words-at.ensures.clean ∙ clean-at _ _ _ (omega (arith, h));
       waits = omega (arith, c.in-Some.ensures.waits);
       same = λ room.
           c.bytes.invariant.same room ∙ c.past_words-at.ensures.by_index room (record { stack = c.bytes.«open»; ternary = c.bytes.ternary; previous = c.bytes.previous; start = c.args.from })
@@ -44,9 +55,14 @@ bytes-preserved c =
     }
 
 pub returns-in-None-clause-by_index : goal.returns-in-None-clause-by_index
-returns-in-None-clause-by_index c = λ room.
+returns-in-None-clause-by_index c = λ clean room.
     c.bytes.invariant.same room ∙ c.past_words-at.ensures.by_index room (record { stack = c.bytes.«open»; ternary = c.bytes.ternary; previous = c.bytes.previous; start = c.args.from })
     ∙ split-ends _ _ _ _ _ _ _ c.if-text-at.false (sym c.is_mark.ensures ∙ c.if-is_mark.false) (sym (rw c.is_empty-else-is_mark.ensures at c.in-None.ensures.value))
+
+pub returns-in-None-clause-passed : goal.returns-in-None-clause-passed
+returns-in-None-clause-passed c =
+    let h = c.if-text-at.false in
+    c.bytes.invariant.passed ∙ c.past_words-at.ensures.clean ∙ clean-at _ _ _ (omega (arith, h))
 
 pub returns-in-None-clause-closed : goal.returns-in-None-clause-closed
 returns-in-None-clause-closed c = ends-empty _ _ _ _ _ _ (sym (rw c.is_empty-else-is_mark.ensures at c.in-None.ensures.value))

@@ -1,0 +1,1 @@
+-- `Split::check_closed` meets its contract: the first literal or comment without an end.
