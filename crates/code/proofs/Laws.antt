@@ -19,7 +19,7 @@ use Rattle.code.specs.declared.CommentStyle.{CommentStyle}
 use Rattle.code.specs.declared.Piece.{Piece}
 use Rattle.code.specs.declared.Piece.TheVariants.{Code, Hidden, OpenQuote, OpenComment}
 use Rattle.code.specs.declared.Unclosed.TheVariants.{Quote, Comment}
-use Rattle.code.specs.Code.{Scan, is_c_like, is_fortran, hides_next, more, literal, block_end, quoted, commented, slashed, banged, piece, rest, placed, scan_from, scan_at, onward}
+use Rattle.code.specs.Code.{Scan, is_c_like, is_fortran, hides_next, more, literal, block_end, quoted, commented, slashed, banged, piece, rest, placed, scan_from, scan_at, onward, Ends}
 
 pub more-more : (a b : ℕ) (o : Option ℕ) → more a (more b o) ≡ more (a + b) o
 more-more a b None = refl
@@ -74,6 +74,11 @@ module _ (style : CommentStyle) (q : ℕ) (s : List ℕ) (i : ℕ) where
   pub literal-end : length s ≤ i → more i (literal style q 0 (drop i s)) ≡ None
   unfolding literal
   literal-end h = rw (drop_of_length-le s h)
+
+-- an end behind a place is one behind each place before it
+pub ends-from : (from i n : ℕ) (o : Option ℕ) → from ≤ i → Ends i n o → Ends from n o
+ends-from from i n (Some k) h e = (omega (arith, h, e.0), e.1)
+ends-from from i n None h e = e
 
 -- block comments
 module _ (s : List ℕ) (i : ℕ) where

@@ -89,6 +89,24 @@ impl CodeText<'_> {
         (escapes && self.text[at] == b'\\') || self.is_doubled(at, q)
     }
 
+    // The end of a literal in q, from a place inside it that has no byte or one.
+    fn last_end(&self, at: usize, q: u8) -> Option<usize>
+        requires { (length self.now.text.now ≤ at + 1) × (at ≤ length self.now.text.now + 1) }
+        ensures result_value { result ≡ more at (literal self.now.style q 0 (drop at self.now.text.now)) }
+        ensures ends { Ends at (length self.now.text.now) result }
+    {
+        if self.text.len() <= at {
+            return None;
+        }
+        if self.hides_next(at, q) {
+            return None;
+        }
+        if self.text[at] == q {
+            return Some(at + 1);
+        }
+        None
+    }
+
     // The end of a literal in q, from a place inside it.
     pub fn quote_end(&self, from: usize, q: u8) -> Option<usize>
         requires { from ≤ length self.now.text.now }
@@ -97,8 +115,8 @@ impl CodeText<'_> {
     {
         let text = self.text;
         let mut i = from;
-        // by one byte, or two where the second is hidden
-        while i < text.len() {
+        // by one byte, or two where the second is hidden; the last apart, so that here the byte behind is read with no look for the text's end
+        while i + 1 < text.len() {
             if self.hides_next(i, q) {
                 i += 2;
             } else if text[i] == q {
@@ -107,7 +125,7 @@ impl CodeText<'_> {
                 i += 1;
             }
         }
-        None
+        self.last_end(i, q)
     }
 
     // The literal that an opening quote at a place begins.
