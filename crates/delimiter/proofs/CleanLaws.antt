@@ -25,7 +25,7 @@ use Rattle.code.proofs.MarkLaws.{clean-code, clean-past}
 use Rattle.delimiter.specs.Cutting.{open_verdict, split_verdict, clean_behind, clean_to, PassedTo}
 
 module _ (style : CommentStyle) (s : List ℕ) (i : ℕ) where
-  -- at a byte of code, behind a piece that is passed, at one without an end, and at the text's end
+  -- at a byte of code, and behind a literal or comment
   pub clean-here : i < length s → piece style (drop i s) ≡ Code → clean style s i ≡ clean_behind style s i
   clean-here h e = rw (le-leb i (length s) (omega arith)) (clean-code style s i h e)
 

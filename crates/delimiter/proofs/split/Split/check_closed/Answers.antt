@@ -1,1 +1,0 @@
--- `Split::check_closed` meets its contract: the first literal or comment without an end.
