@@ -61,10 +61,6 @@ module _ (t : List ℕ) (all : List (List ℕ)) where
       ends_so = λ c n m q.
           rw (ends-at end d l c n m q, add-one) (sym (tally-place (λ k. same_compact k c) (get_or ends n Zero) number name rest)) ∙ so.ends_so c n m q;
     }
-      where
-        or-assoc : (a b c : Bool) → ((a || b) || c) ≡ (a || (b || c))
-        or-assoc true b c = refl
-        or-assoc false b c = refl
 
 -- no name is left
 pub counting-all : (book : Book) (t : List ℕ) (number : ℕ) (heads : List Bool) (ends : List Tally) → Counting t (names_of book.directives) [] number heads ends

@@ -13,3 +13,5 @@ pub mod Foreseeing
 pub mod Optional
 pub mod Counting
 pub mod Eights
+pub mod Sharing
+pub mod Blanks

@@ -47,7 +47,7 @@ solid-at (x ∷ xs) j e = go (is_space x) refl e (λ k. solid-at xs k) j
     go false q h again (suc j) = again j (cc)
 
 -- a byte that is no blank is not the one between words
-no-blank : (x : ℕ) → is_space x ≡ false → eqb x 32 ≡ false
+pub no-blank : (x : ℕ) → is_space x ≡ false → eqb x 32 ≡ false
 no-blank x e = by_cases (eqb x 32) (λ q. let h : x ≡ 32 = eqb-true x 32 q in cc (rw h at e)) (λ q. q)
 
 -- the letters that are left at place j of a beginning of n of them
@@ -138,13 +138,13 @@ pub record Marked (name t : List ℕ) (old now : List Bool) (j : ℕ) (rest : Li
   pub heads : (n : ℕ) → n ≤ length t → (get_or now n false || goes_on t true rest j n) ≡ (get_or old n false || goes_on t true name 0 n)
   pub ends : (n : ℕ) → n ≤ length t → goes_on t false rest j n ≡ goes_on t false name 0 n
 
-marked-or : (now : List Bool) (j n : ℕ) (b : Bool) → j < length now → get_or (set now j (get_or now j false || b)) n false ≡ (get_or now n false || (b && eqb n j))
+pub marked-or : (now : List Bool) (j n : ℕ) (b : Bool) → j < length now → get_or (set now j (get_or now j false || b)) n false ≡ (get_or now n false || (b && eqb n j))
 marked-or now j n b l =
     by_cases (eqb n j)
     (λ e. let q : n ≡ j = eqb-true n j e in rw (e, and-true, q, get_or-set_same now j (get_or now j false || b) false l))
     (λ e. rw (e, and-false, or-false, get_or-set_other now j n (get_or now j false || b) false (λ q. eqb-false n j e q)))
 
-or-assoc : (a b c : Bool) → ((a || b) || c) ≡ (a || (b || c))
+pub or-assoc : (a b c : Bool) → ((a || b) || c) ≡ (a || (b || c))
 or-assoc true b c = refl
 or-assoc false b c = refl
 

@@ -1,12 +1,15 @@
 // The names of a book without their blanks, held once for a line against a candidate and all that may follow it.
 ghost use Rattle.std.specs.Prelude.{◌≡◌, ◌+◌, ◌≤◌, true, false, length, get_or};
+ghost use Rattle.std.specs.Option.{option_copied};
 ghost use Rattle.rulebook.specs.Book.{book_of};
 ghost use Rattle.directive.specs.Name.{compact};
-ghost use Rattle.directive.specs.Steps.{RunAlike, one_more, only_one, Extended, HeadsMarked, EndTold};
+ghost use Rattle.directive.specs.Steps.{Counted, RunAlike, one_more, only_one, Extended, HeadsMarked, EndTold};
 ghost use Rattle.directive.specs.Kept.{Foretells, Passes};
+ghost use Rattle.directive.specs.Compacts.{IfCompacts};
 
 use crate::alike::{eight_folded, eight_same};
 use crate::candidate::Candidate;
+use crate::compacts::CompactNames;
 use ascii::class::is_space;
 use ascii::sets::Word;
 use ascii::{begins_at, run_end, same_byte};
@@ -14,7 +17,7 @@ use lexer::trivia::skip;
 use rulebook::CheckedBook;
 
 // The places of letters, of which there are as many as a candidate has room for: before each, and behind the last.
-const PLACES: usize = 129;
+pub(crate) const PLACES: usize = 129;
 
 // How many names end at a place: none, one, by the number of its entry, or more.
 #[derive(Clone, Copy)]
@@ -25,7 +28,7 @@ pub enum Tally {
 }
 
 impl Tally {
-    fn and(self, number: u8) -> Tally
+    pub(crate) fn and(self, number: u8) -> Tally
         ensures { result ≡ one_more self number }
     {
         match self {
@@ -42,6 +45,13 @@ impl Tally {
             _ => None,
         }
     }
+}
+
+// Of each number of letters: whether some name has just these, or has them before one of its blanks, and which names have just these.
+#[derive(Drop)]
+pub struct Places {
+    pub heads: [bool; PLACES],
+    pub ends: [Tally; PLACES],
 }
 
 // The letters of a candidate and of the words behind it, as a text without blanks. Of each beginning of it, by the number of its bytes: whether some name has
@@ -71,7 +81,7 @@ fn gather(text: &[u8], end: usize, ignores_case: bool, letters: &mut Candidate)
 }
 
 // How many bytes, by eights, a name and letters begin with alike, with case ignored.
-fn run_alike(name: &[u8], letters: &[u8]) -> usize
+pub(crate) fn run_alike(name: &[u8], letters: &[u8]) -> usize
     ensures { RunAlike name.now letters.now result }
 {
     let most = name.len().min(letters.len());
@@ -119,25 +129,47 @@ fn mark(name: &[u8], letters: &[u8], heads: &mut [bool; PLACES]) -> Option<usize
     Some(place)
 }
 
+// What the names of a book say of letters, each asked anew.
+fn places_of(book: &CheckedBook, letters: &[u8]) -> Places
+    requires fits { length letters.now ≤ 128 }
+    requires solid { compact letters.now ≡ letters.now }
+    ensures { Counted (book_of book.now.bytes.now) letters.now result.heads result.ends }
+{
+    let mut heads = [false; PLACES];
+    let mut ends = [Tally::Zero; PLACES];
+    let mut number = 0;
+    for name in book.directive_names() {
+        if let Some(place) = mark(name, letters, &mut heads) {
+            ends[place] = ends[place].and(number);
+        }
+        number += 1;
+    }
+    Places { heads, ends }
+}
+
 impl Foreseen {
     // Made for a candidate that ends at a place of a text.
-    pub fn of(book: &CheckedBook, text: &[u8], end: usize, candidate: &Candidate) -> Foreseen
-        requires { end ≤ length text.now }
+    pub fn of(
+        book: &CheckedBook,
+        compacts: Option<&CompactNames>,
+        text: &[u8],
+        end: usize,
+        candidate: &Candidate,
+    ) -> Foreseen
+        requires end_in_bounds { end ≤ length text.now }
+        requires made { IfCompacts (book_of book.now.bytes.now) (option_copied compacts) }
         ensures { Foretells (book_of book.now.bytes.now) candidate.now result }
     {
         let mut letters = candidate.without_blanks();
         let reached = letters.as_slice().len();
         gather(text, end, book.header.ignores_case, &mut letters);
         let known = letters.as_slice();
-        let mut heads = [false; PLACES];
-        let mut ends = [Tally::Zero; PLACES];
-        let mut number = 0;
-        for name in book.directive_names() {
-            if let Some(place) = mark(name, known, &mut heads) {
-                ends[place] = ends[place].and(number);
-            }
-            number += 1;
-        }
+        let places = match compacts {
+            Some(compacts) => compacts.places(book, known),
+            None => places_of(book, known),
+        };
+        let heads = places.heads;
+        let ends = places.ends;
         Foreseen {
             letters,
             reached,

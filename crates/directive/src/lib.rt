@@ -3,22 +3,26 @@
 
 pub mod alike;
 pub mod candidate;
+pub mod compacts;
 pub mod foreseen;
 pub mod names;
 pub mod outlook;
 
 ghost use Rattle.std.specs.Prelude.{◌≡◌, [], ◌≤◌, ◌<◌, length, drop, get_or};
+ghost use Rattle.std.specs.Option.{option_copied};
 ghost use Rattle.ascii.specs.Ascii.{is_word};
 ghost use Rattle.refusal.specs.Answer.{told};
 ghost use Rattle.rulebook.specs.Book.{book_of};
 ghost use Rattle.directive.specs.Name.{entry_of, name_from, name_at};
 ghost use Rattle.directive.specs.Steps.{next_of, Ahead, Ends, Placed};
 ghost use Rattle.directive.specs.Kept.{KeptFor, Asked};
+ghost use Rattle.directive.specs.Compacts.{IfCompacts};
 
 use ascii::class::is_word;
 use ascii::sets::Word;
 use ascii::{byte_at, run_end};
 use candidate::Candidate;
+use compacts::CompactNames;
 use lexer::trivia::skip;
 use outlook::Outlook;
 use refusal::{Reason, Refusal};
@@ -73,8 +77,15 @@ fn next_word(
 
 // The last candidate that is a name, of those whose first word stands at a place, by a search that began at another: word by word, while the candidate may
 // grow. The place jumps by words, so the loop is no `for`.
-fn search(book: &CheckedBook, text: &[u8], from: usize, start: usize) -> Result<Named, Refusal>
-    requires { (from ≤ start) × (start ≤ length text.now) }
+fn search(
+    book: &CheckedBook,
+    compacts: Option<&CompactNames>,
+    text: &[u8],
+    from: usize,
+    start: usize,
+) -> Result<Named, Refusal>
+    requires bounds { (from ≤ start) × (start ≤ length text.now) }
+    requires made { IfCompacts (book_of book.now.bytes.now) (option_copied compacts) }
     ensures result_value { told result ≡ name_from (book_of book.now.bytes.now) text.now from [] None 0 start (drop start text.now) }
     ensures ends { Ends from start (length text.now) result }
 {
@@ -90,7 +101,7 @@ fn search(book: &CheckedBook, text: &[u8], from: usize, start: usize) -> Result<
             break;
         }
         outlook.pass(&text[place..end]);
-        let entry = outlook.entry_of(book, text, end, &candidate);
+        let entry = outlook.entry_of(book, compacts, text, end, &candidate);
         if let Some(entry) = entry {
             found = Some(Named { entry, end });
         }
@@ -105,13 +116,19 @@ fn search(book: &CheckedBook, text: &[u8], from: usize, start: usize) -> Result<
 }
 
 // The directive's name from a place of a text on, behind trivia.
-pub fn lex_name(book: &CheckedBook, text: &[u8], at: usize) -> Result<DirectiveName, Refusal>
-    requires { at ≤ length text.now }
+pub fn lex_name(
+    book: &CheckedBook,
+    compacts: Option<&CompactNames>,
+    text: &[u8],
+    at: usize,
+) -> Result<DirectiveName, Refusal>
+    requires in_bounds { at ≤ length text.now }
+    requires made { IfCompacts (book_of book.now.bytes.now) (option_copied compacts) }
     ensures result_value { told result ≡ name_at (book_of book.now.bytes.now) text.now at }
     ensures placed { Placed at (length text.now) result }
 {
     let start = skip(text, at, book.header.ignores_case)?;
-    let found = search(book, text, at, start)?;
+    let found = search(book, compacts, text, at, start)?;
     Ok(DirectiveName {
         entry: found.entry,
         start,

@@ -1,11 +1,14 @@
 // What is kept of a book's names from word to word of one line, so that no name is held against each word anew.
 ghost use Rattle.std.specs.Prelude.{◌≡◌, ◌≤◌, ◌<◌, ℕ, List, [], length};
+ghost use Rattle.std.specs.Option.{option_copied};
 ghost use Rattle.rulebook.specs.Book.{Book, book_of};
 ghost use Rattle.rulebook.specs.Lookup.{comparison, entry_from};
 ghost use Rattle.directive.specs.Name.{compact, extended, entry_of, may_grow};
 ghost use Rattle.directive.specs.Kept.{Within, KeptFor, Asked};
+ghost use Rattle.directive.specs.Compacts.{IfCompacts};
 
 use crate::candidate::Candidate;
+use crate::compacts::CompactNames;
 use crate::foreseen::Foreseen;
 use crate::names::NamesLeft;
 use rulebook::CheckedBook;
@@ -60,11 +63,13 @@ impl<'a> Outlook<'a> {
     pub fn entry_of(
         &mut self,
         book: &CheckedBook,
+        compacts: Option<&CompactNames>,
         text: &[u8],
         end: usize,
         candidate: &Candidate,
     ) -> Option<usize>
         requires end_in_bounds { end ≤ length text.now }
+        requires made { IfCompacts (book_of book.now.bytes.now) (option_copied compacts) }
         requires ready { KeptFor (book_of book.now.bytes.now) candidate.now self.old }
         ensures value { result ≡ entry_of (book_of book.now.bytes.now) candidate.now }
         ensures ready_2 { KeptFor (book_of book.now.bytes.now) candidate.now self.new }
@@ -75,7 +80,7 @@ impl<'a> Outlook<'a> {
             return named;
         }
         if self.foreseen.is_none() {
-            self.foreseen = Some(Foreseen::of(book, text, end, candidate));
+            self.foreseen = Some(Foreseen::of(book, compacts, text, end, candidate));
         }
         self.foreseen.as_ref()?.entry()
     }

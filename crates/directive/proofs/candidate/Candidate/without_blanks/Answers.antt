@@ -6,16 +6,8 @@ use lib.Seq.{drop-cons}
 use lib.ListN.{drop_of_length-le, length-set}
 use Rattle.std.proofs.lemmas.List.{take_more_set}
 use Rattle.directive.specs.Name.{compact}
+use Rattle.directive.proofs.Blanks.{compact-blank, compact-letter}
 use Rattle.directive.proofs.candidate.Candidate.without_blanks.Goals as goal
-
-module _ (xs : List ℕ) (i : ℕ) (l : i < length xs) where
-  blank : is_space (get_or xs i 0) ≡ true → compact (drop (i + 1) xs) ≡ compact (drop i xs)
-  unfolding compact
-  blank s = rw (drop-cons xs i 0 l, compact, s, add-one)
-
-  solid : is_space (get_or xs i 0) ≡ false → get_or xs i 0 ∷ compact (drop (i + 1) xs) ≡ compact (drop i xs)
-  unfolding compact
-  solid s = rw (drop-cons xs i 0 l, compact, s, add-one)
 
 pub loop-b-preserved-then-is_space : goal.loop-b-preserved-then-is_space
 loop-b-preserved-then-is_space c =
@@ -27,7 +19,7 @@ loop-b-preserved-then-is_space c =
       few = i.few;
       long = i.long;
       items = i.items;
-      alike = ap (λ (r : List ℕ). take l.len l.bytes ++ r) (blank xs l.b-index c.loop-b-test.true (sym c.is_space.ensures ∙ c.if-is_space.true)) ∙ i.alike;
+      alike = ap (λ (r : List ℕ). take l.len l.bytes ++ r) (compact-blank xs l.b-index c.loop-b-test.true (sym c.is_space.ensures ∙ c.if-is_space.true)) ∙ i.alike;
     }
 
 pub loop-b-preserved : goal.loop-b-preserved
@@ -43,7 +35,7 @@ loop-b-preserved c =
       items = i.items;
       alike =
           rw (take_more_set l.bytes l.len (get_or xs l.b-index 0) m, append_assoc)
-          (ap (λ (r : List ℕ). take l.len l.bytes ++ r) (solid xs l.b-index c.loop-b-test.true (sym c.is_space.ensures ∙ c.if-is_space.false)) ∙ i.alike);
+          (ap (λ (r : List ℕ). take l.len l.bytes ++ r) (compact-letter xs l.b-index c.loop-b-test.true (sym c.is_space.ensures ∙ c.if-is_space.false)) ∙ i.alike);
     }
 
 pub returns : goal.returns

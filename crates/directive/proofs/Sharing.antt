@@ -1,0 +1,137 @@
+-- Laws of how many bytes two texts begin with alike, case ignored: more of them, by way of a third text, and what it tells of a name without its blanks and a
+-- beginning of letters. By places, and by structure. Assumes nothing.
+use mathlib.Core.Path.{◌≡◌, refl, sym, ◌∙◌}
+use mathlib.Core.Bool.{Bool, true, false, cond, ◌&&◌, ◌||◌, or-false}
+use mathlib.Core.List.{List, [], ◌∷◌}
+use Prim.Native.Nat.{ℕ, zero, suc, ◌+◌, ◌-◌, ◌<◌, ◌≤◌}
+use native.Mathlib.Omega.{arith}
+use lib.ListN.{length, take, drop, get_or, length-drop, length-take}
+use lib.Seq.{get_or-drop}
+use lib.Dec.{eqb, leb, ltb}
+use borrow.Author.Tests.{eqb-true, ne_eqb, ltb-true, ltb-false, le-leb, lt-leb}
+use Rattle.std.proofs.Math.Dec.{eqb-suc-suc, leb-suc-suc}
+use Rattle.ascii.specs.Ascii.{is_space, fold}
+use Rattle.ascii.specs.Text.{same_by}
+use Rattle.ascii.proofs.Flags.{by_cases}
+use Rattle.directive.specs.Name.{compact, same_compact, head_from}
+use Rattle.directive.specs.Steps.{RunAlike}
+use Rattle.directive.specs.Compacts.{Agreed, blank_behind}
+use Rattle.directive.proofs.Beginning.{follows}
+use Rattle.directive.proofs.Marking.{head-letters}
+
+-- one byte more, and so many that follow
+pub alike-more : (a b : List ℕ) (n : ℕ) → RunAlike a b n → n < length a → n < length b → eqb (fold (get_or a n 0)) (fold (get_or b n 0)) ≡ true → RunAlike a b (n + 1)
+alike-more a b n (_, _, f) l m e = (omega arith, omega arith, each)
+  where
+    each : (k : ℕ) → k < n + 1 → eqb (fold (get_or a k 0)) (fold (get_or b k 0)) ≡ true
+    each k s =
+        by_cases (ltb k n)
+        (λ q. f k (ltb-true k n q))
+        (λ q. let g = ltb-false k n q in let z : k ≡ n = omega arith in rw z e)
+
+pub alike-run : (a b : List ℕ) (n k : ℕ) → RunAlike a b n → RunAlike (drop n a) (drop n b) k → RunAlike a b (n + k)
+alike-run a b n k (l, m, f) (p, q, g) =
+    let x = length-drop n a in
+    let y = length-drop n b in
+    (omega arith, omega arith, each)
+  where
+    each : (i : ℕ) → i < n + k → eqb (fold (get_or a i 0)) (fold (get_or b i 0)) ≡ true
+    each i s =
+        by_cases (ltb i n)
+        (λ u. f i (ltb-true i n u))
+        (λ u. let h = ltb-false i n u in
+        let z : n + (i - n) ≡ i = omega arith in
+        rw (get_or-drop n a (i - n) 0, get_or-drop n b (i - n) 0, z) at (g (i - n) (omega arith)))
+
+-- a text y, of which is known how far it goes with x, and of x how far it goes with t
+module _ (y x t : List ℕ) (s a : ℕ) (of-y : Agreed y x s) (of-x : Agreed x t a) where
+  both : (m : ℕ) → m < s → m < a → eqb (fold (get_or y m 0)) (fold (get_or t m 0)) ≡ true
+  both m l k = let e = eqb-true (fold (get_or y m 0)) (fold (get_or x m 0)) (of-y.0.2 m l) in rw e (of-x.0.2 m k)
+
+  pub third-less : s < a → Agreed y t s
+  third-less l = ((of-y.0.0, omega (arith, of-x.0.1), λ m k. both m k (omega arith)), stop)
+    where
+      stop : s < length y → s < length t → eqb (fold (get_or y s 0)) (fold (get_or t s 0)) ≡ false
+      stop p q =
+          let e = eqb-true (fold (get_or x s 0)) (fold (get_or t s 0)) (of-x.0.2 s l) in
+          rw e at (of-y.1 p (omega (arith, of-x.0.0)))
+
+  pub third-more : a < s → Agreed y t a
+  third-more l = ((omega (arith, of-y.0.0), of-x.0.1, λ m k. both m (omega arith) k), stop)
+    where
+      stop : a < length y → a < length t → eqb (fold (get_or y a 0)) (fold (get_or t a 0)) ≡ false
+      stop p q =
+          let e = eqb-true (fold (get_or y a 0)) (fold (get_or x a 0)) (of-y.0.2 a l) in
+          rw e (of-x.1 (omega (arith, of-y.0.1)) q)
+
+  pub third-same : s ≡ a → RunAlike y t a
+  third-same e = (omega (arith, of-y.0.0), of-x.0.1, λ m k. both m (omega arith) k)
+
+-- a text begins with letters, case ignored
+unfoldable begun : List ℕ → List ℕ → Bool
+begun [] xs = true
+begun (y ∷ ys) [] = false
+begun (y ∷ ys) (x ∷ xs) = eqb (fold x) (fold y) && begun ys xs
+
+-- a beginning of letters is a name's where both agree so far, and it ends where the name does or has a blank
+follows-begun : (name d : List ℕ) → follows true true fold name d ≡ (begun d (compact name) && (blank_behind name (length d) || eqb (length d) (length (compact name))))
+unfolding follows compact blank_behind begun
+follows-begun [] [] = refl
+follows-begun [] (y ∷ ys) = refl
+follows-begun (x ∷ xs) [] = go (is_space x) (eqb x 32) (follows-begun xs [])
+  where
+    go : (s p : Bool) → follows true true fold xs [] ≡ (true && (blank_behind xs 0 || eqb 0 (length (compact xs))))
+        → ((true && p) || ((true && s) && follows true true fold xs [])) ≡ (true && ((p || (s && blank_behind xs 0)) || eqb 0 (length (cond s (compact xs) (x ∷ compact xs)))))
+    go true true h = refl
+    go true false h = h
+    go false true h = refl
+    go false false h = rw (ne_eqb 0 (suc (length (compact xs))) (omega arith))
+follows-begun (x ∷ xs) (y ∷ ys) = go (is_space x) (follows-begun xs (y ∷ ys)) (follows-begun xs ys)
+  where
+    and-assoc : (a b c : Bool) → (a && (b && c)) ≡ ((a && b) && c)
+    and-assoc true b c = refl
+    and-assoc false b c = refl
+
+    go : (s : Bool) → follows true true fold xs (y ∷ ys) ≡ (begun (y ∷ ys) (compact xs) && (blank_behind xs (suc (length ys)) || eqb (suc (length ys)) (length (compact xs))))
+        → follows true true fold xs ys ≡ (begun ys (compact xs) && (blank_behind xs (length ys) || eqb (length ys) (length (compact xs))))
+        → cond s (follows true true fold xs (y ∷ ys)) (eqb (fold x) (fold y) && follows true true fold xs ys)
+        ≡ (begun (y ∷ ys) (cond s (compact xs) (x ∷ compact xs))
+        && (blank_behind xs (cond s (suc (length ys)) (length ys)) || eqb (suc (length ys)) (length (cond s (compact xs) (x ∷ compact xs)))))
+    go true h k = h
+    go false h k = rw (k, eqb-suc-suc) (and-assoc (eqb (fold x) (fold y)) (begun ys (compact xs)) (blank_behind xs (length ys) || eqb (length ys) (length (compact xs))))
+
+same-begun : (a d : List ℕ) → same_by fold a d ≡ (begun d a && eqb (length d) (length a))
+unfolding same_by begun
+same-begun [] [] = refl
+same-begun [] (y ∷ ys) = refl
+same-begun (x ∷ xs) [] = rw (ne_eqb 0 (suc (length xs)) (omega arith))
+same-begun (x ∷ xs) (y ∷ ys) = rw (same-begun xs ys, eqb-suc-suc) (and-assoc (eqb (fold x) (fold y)) (begun ys xs) (eqb (length ys) (length xs)))
+  where
+    and-assoc : (a b c : Bool) → (a && (b && c)) ≡ ((a && b) && c)
+    and-assoc true b c = refl
+    and-assoc false b c = refl
+
+-- how far letters go with a text tells which of their beginnings it has
+agreed-next : (x y : ℕ) (xs ys : List ℕ) (r : ℕ) → Agreed (x ∷ xs) (y ∷ ys) (suc r) → Agreed xs ys r
+agreed-next x y xs ys r ((l, m, f), g) = ((omega arith, omega arith, λ k s. f (suc k) (omega arith)), λ p q. g (omega arith) (omega arith))
+
+begun-run : (n : ℕ) (a t : List ℕ) (run : ℕ) → Agreed a t run → n ≤ length t → begun (take n t) a ≡ leb n run
+unfolding begun
+begun-run zero a t run g l = rw (le-leb 0 run (omega arith))
+begun-run (suc n) a [] run g l = absurd (omega arith)
+begun-run (suc n) [] (y ∷ ys) run g l = rw (lt-leb (suc n) run (omega (arith, g.0.0)))
+begun-run (suc n) (x ∷ xs) (y ∷ ys) zero g l = let e : eqb (fold x) (fold y) ≡ false = g.1 (omega arith) (omega arith) in rw (e, lt-leb (suc n) 0 (omega arith))
+begun-run (suc n) (x ∷ xs) (y ∷ ys) (suc r) g l =
+    let e : eqb (fold x) (fold y) ≡ true = g.0.2 0 (omega arith) in
+    rw (e, begun-run n xs ys r (agreed-next x y xs ys r g) (omega arith), leb-suc-suc)
+
+-- what that tells of a name and a candidate that has just the first n of some letters
+module _ (name t : List ℕ) (run : ℕ) (g : Agreed (compact name) t run) (c : List ℕ) (n : ℕ) (l : n ≤ length t) (q : compact c ≡ take n t) where
+  size : length (take n t) ≡ n
+  size = simp length-take (omega arith)
+
+  pub head-run : head_from same_compact [] name c ≡ (leb n run && (blank_behind name n || eqb n (length (compact name))))
+  head-run = head-letters name c ∙ rw (q, follows-begun name (take n t), size, begun-run n (compact name) t run g l)
+
+  pub same-run : same_compact name c ≡ (leb n run && eqb n (length (compact name)))
+  same-run = rw (q, same-begun (compact name) (take n t), size, begun-run n (compact name) t run g l)

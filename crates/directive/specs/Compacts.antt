@@ -1,0 +1,48 @@
+-- The names of a book without their blanks, as they are made once for many lines.
+use Rattle.std.specs.Prelude.{ℕ, zero, suc, ◌+◌, ◌/◌, ◌%◌, ◌^◌, ◌≤◌, ◌<◌, ◌≡◌, Bool, true, false, cond, ◌&&◌, ◌||◌, List, [], ◌∷◌, map, length, take, replicate, get_or, eqb, ltb, Option, Some, None}
+use Rattle.ascii.specs.Ascii.{is_space, fold}
+use Rattle.rulebook.specs.Book.{Book}
+use Rattle.directive.specs.declared.compacts.CompactName.{CompactName}
+use Rattle.directive.specs.declared.compacts.CompactNames.{CompactNames}
+use Rattle.directive.specs.Name.{compact}
+use Rattle.directive.specs.Steps.{RunAlike}
+
+-- two texts begin with so many bytes alike, with case ignored, and no more
+abbrev pub Agreed : List ℕ → List ℕ → ℕ → Type 0
+Agreed a b run = RunAlike a b run × (run < length a → run < length b → eqb (fold (get_or a run 0)) (fold (get_or b run 0)) ≡ false)
+
+-- whether a blank stands behind the first n letters of a name
+unfoldable pub blank_behind : List ℕ → ℕ → Bool
+blank_behind [] n = false
+blank_behind (x ∷ xs) zero = eqb x 32 || (is_space x && blank_behind xs zero)
+blank_behind (x ∷ xs) (suc n) = blank_behind xs (cond (is_space x) (suc n) n)
+
+-- whether a bit of a number of 64 is 1
+abbrev pub has_bit : ℕ → ℕ → Bool
+has_bit bits n = ltb n 64 && eqb (bits / 2 ^ n % 2) 1
+
+-- no letters
+abbrev pub no_name : CompactName
+no_name = record { letters = replicate 64 0; len = 0; shared = 0; blanks = 0 }
+
+-- what a name says alone
+pub record Alone (name : List ℕ) (c : CompactName) : Type 0 where
+  pub long : length c.letters ≡ 64
+  pub fits : c.len ≤ 64
+  pub letters : take c.len c.letters ≡ compact name
+  pub blanks : (n : ℕ) → has_bit c.blanks n ≡ blank_behind name n
+
+-- a name without its blanks, and how it begins as the one before it
+pub record Compacted (before name : List ℕ) (c : CompactName) : Type 0 where
+  pub alone : Alone name c
+  pub shared : Agreed (compact name) (compact before) c.shared
+
+-- those of a book; before the first stands none
+abbrev pub Compacts : Book → CompactNames → Type 0
+Compacts book c = (i : ℕ) → i < length book.directives
+    → Compacted (get_or ([] ∷ map (λ e. e.name) book.directives) i []) (get_or (map (λ e. e.name) book.directives) i []) (get_or c.names i no_name)
+
+-- those that were made, if any were
+abbrev pub IfCompacts : Book → Option CompactNames → Type 0
+IfCompacts book None = Unit {0}
+IfCompacts book (Some c) = Compacts book c
