@@ -15,3 +15,4 @@ pub mod Counting
 pub mod Eights
 pub mod Sharing
 pub mod Blanks
+pub mod Compacting
