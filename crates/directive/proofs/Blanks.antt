@@ -1,6 +1,6 @@
 -- Laws of the places of a name's blanks, and of a number of 64 bits that has them: what is kept, what is added, and what a byte of the name adds.
 -- Assumes nothing.
-use mathlib.Core.Path.{◌≡◌, refl, sym, ◌∙◌}
+use mathlib.Core.Path.{◌≡◌, refl, sym, ap, ◌∙◌}
 use mathlib.Core.Bool.{Bool, true, false, ◌&&◌, ◌||◌, and-true, and-false, or-true, or-false}
 use mathlib.Core.Logic.{inl, inr}
 use mathlib.Core.List.{List, [], ◌∷◌}
@@ -70,8 +70,11 @@ bits-up-to a p q n m =
         (λ e. let h = leb-true n p e in let z : bit_at mask n ≡ 1 = bit_at_ones (64 - (63 - q)) n (omega (arith, m)) in rw (e, z))
         (λ e. let h = leb-false n p e in let z : bit_at mask n ≡ 0 = bit_at_ones_above (64 - (63 - q)) n (omega (arith, m)) in rw (e, z))
 
+pub bits-none : (n : ℕ) → has_bit 0 n ≡ false
+bits-none n = rw (bit_at-zero n, and-false (ltb n 64))
+
 pub bits-zero : (xs : List ℕ) (n : ℕ) → (has_bit 0 n || blank_from 0 xs n) ≡ blank_behind xs n
-bits-zero xs n = let e : n - 0 ≡ n = omega arith in rw (bit_at-zero n, and-false (ltb n 64), e, le-leb 0 n (omega arith))
+bits-zero xs n = let e : n - 0 ≡ n = omega arith in rw (bits-none n, e, le-leb 0 n (omega arith))
 
 -- a blank more at a place, or none
 pub bits-one : (a : ℕ) (b : Bool) (p n : ℕ) → p < 64 → has_bit (bit_or a (bool_byte b * 2 ^ p % 18446744073709551616)) n ≡ (has_bit a n || (b && eqb n p))
@@ -84,7 +87,7 @@ bits-one a true p n l =
     rw (e, z, or-false))
 bits-one a false p n l =
     let z : bool_byte false * 2 ^ p % 18446744073709551616 ≡ 0 = omega arith in
-    rw z (bits-or a 0 n ∙ rw (bit_at-zero n, and-false))
+    rw z (bits-or a 0 n ∙ ap (λ (b : Bool). has_bit a n || b) (bits-none n))
 
 -- each place up to one
 pub bits-next : (b : Bool) (i n : ℕ) → (ltb n (i + 1) && b) ≡ ((ltb n i && b) || (b && eqb n i))

@@ -1,23 +1,24 @@
 -- Laws of a book's names without their blanks: the name at hand among those that are left, what is made of it, and of a name more. Assumes nothing.
 use mathlib.Core.Path.{◌≡◌, refl, sym, ap, ◌∙◌}
 use mathlib.Core.List.{List, [], ◌∷◌}
-use mathlib.Core.Bool.{and-false}
 use Prim.Native.Nat.{ℕ, zero, suc, ◌+◌, ◌<◌, ◌≤◌}
 use native.Mathlib.Numerals.{add-one}
 use native.Mathlib.Omega.{arith}
-use lib.ListN.{length, drop, get_or, set}
-use lib.Seq.{drop-drop, get_or-drop}
-use lib.Dec.{eqb, ltb}
+use lib.ListN.{length, take, drop, get_or, set, length-take}
+use lib.Seq.{drop-cons, drop-drop, get_or-drop}
+use lib.Dec.{eqb}
 use borrow.Author.Tests.{eqb-true, eqb-false}
 use Rattle.std.proofs.lemmas.List.{get_or-set_same, get_or-set_other}
-use Rattle.std.proofs.lemmas.Nat.Bits.{bit_at-zero}
+use Rattle.rulebook.proofs.Laying.{length-entries}
 use Rattle.ascii.proofs.Flags.{by_cases}
-use Rattle.rulebook.specs.Book.{Entry}
+use Rattle.rulebook.specs.Book.{Entry, Book, book_of, header_of}
 use Rattle.directive.specs.declared.compacts.CompactName.{CompactName}
+use Rattle.directive.specs.declared.compacts.CompactNames.{CompactNames}
 use Rattle.directive.specs.Name.{compact}
-use Rattle.directive.specs.Compacts.{Agreed, Alone, Compacted, no_name, blank_behind}
+use Rattle.directive.specs.Compacts.{Compacts, Agreed, Alone, Compacted, no_name, has_bit, blank_behind}
 use Rattle.directive.proofs.Long.{Short}
-use Rattle.directive.proofs.Tallying.{names_of}
+use Rattle.directive.proofs.Blanks.{bits-none}
+use Rattle.directive.proofs.Tallying.{names_of, length-names}
 
 -- the name at hand is the first of those that are left
 module _ (names : List (List ℕ)) (i : ℕ) (name : List ℕ) (rest : List (List ℕ)) (e : drop i names ≡ name ∷ rest) where
@@ -41,9 +42,9 @@ short-at [] s (suc i) name rest e = cc
 short-at (x ∷ es) s zero name rest e = let q : x.name ≡ name = ap (λ l. get_or l 0 []) e in rw q at s.0
 short-at (x ∷ es) s (suc i) name rest e = short-at es s.1 i name rest e
 
-pub alone-none : Alone [] no_name
-unfolding compact blank_behind
-alone-none = record { long = refl; fits = omega arith; letters = refl; blanks = λ n. rw (bit_at-zero n, and-false (ltb n 64)) }
+pub blanks-none : (n : ℕ) → has_bit 0 n ≡ blank_behind [] n
+unfolding blank_behind
+blanks-none n = bits-none n
 
 -- what it says alone does not depend on the one before it
 abbrev pub sharing : CompactName → ℕ → CompactName
@@ -51,6 +52,36 @@ sharing c shared = record { letters = c.letters; len = c.len; shared = shared; b
 
 pub alone-sharing : (name : List ℕ) (c : CompactName) (shared : ℕ) → Alone name c → Alone name (sharing c shared)
 alone-sharing name c shared a = record { long = a.long; fits = a.fits; letters = a.letters; blanks = a.blanks }
+
+-- one of those that were made, and how far letters go with it
+module _ (book : Book) (cs : CompactNames) (made : Compacts book cs) (i : ℕ) (l : i < length book.directives) where
+  abbrev pub here : CompactName
+  here = get_or cs.names i no_name
+
+  abbrev pub before : List ℕ
+  before = get_or ([] ∷ names_of book.directives) i []
+
+  abbrev pub name : List ℕ
+  name = get_or (names_of book.directives) i []
+
+  pub fits-here : (here.shared ≤ here.len) × (here.len ≤ length here.letters)
+  fits-here =
+      let c = made i l in
+      let n : length (compact name) ≡ here.len = rw (← c.alone.letters) (simp length-take (omega (arith, c.alone.fits, c.alone.long))) in
+      (omega (arith, c.shared.0.0, n), omega (arith, c.alone.fits, c.alone.long))
+
+  pub run-here : (t : List ℕ) (run result : ℕ)
+      → ((b : List ℕ) → Agreed (take here.len here.letters) b here.shared → Agreed b t run → Agreed (take here.len here.letters) t result)
+      → Agreed (compact before) t run → Agreed (compact name) t result
+  run-here t run result f g = let c = made i l in rw c.alone.letters at (f (compact before)) c.shared g
+
+  pub left-here : drop i (names_of book.directives) ≡ name ∷ drop (i + 1) (names_of book.directives)
+  left-here = rw add-one (drop-cons (names_of book.directives) i [] (omega (arith, l, length-names book.directives)))
+
+-- the header counts the directives
+pub directives-count : (bs : List ℕ) → length (book_of bs).directives ≡ (header_of bs).directives.count
+unfolding book_of header_of
+directives-count bs = length-entries 0 bs (get_or bs 7 0) 9
 
 -- a name more is made
 abbrev pub MadeTo : List (List ℕ) → List CompactName → ℕ → Type 0

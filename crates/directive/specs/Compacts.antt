@@ -1,5 +1,5 @@
 -- The names of a book without their blanks, as they are made once for many lines.
-use Rattle.std.specs.Prelude.{ℕ, zero, suc, ◌+◌, ◌/◌, ◌%◌, ◌^◌, ◌≤◌, ◌<◌, ◌≡◌, Bool, true, false, cond, ◌&&◌, ◌||◌, List, [], ◌∷◌, map, length, take, replicate, get_or, eqb, ltb, Option, Some, None}
+use Rattle.std.specs.Prelude.{ℕ, zero, suc, ◌+◌, ◌/◌, ◌%◌, ◌^◌, ◌≤◌, ◌<◌, ◌≡◌, Bool, true, false, cond, ◌&&◌, ◌||◌, List, [], ◌∷◌, map, length, take, get_or, eqb, ltb, Option, Some, None}
 use Rattle.ascii.specs.Ascii.{is_space, fold}
 use Rattle.rulebook.specs.Book.{Book}
 use Rattle.directive.specs.declared.compacts.CompactName.{CompactName}
@@ -21,9 +21,9 @@ blank_behind (x ∷ xs) (suc n) = blank_behind xs (cond (is_space x) (suc n) n)
 abbrev pub has_bit : ℕ → ℕ → Bool
 has_bit bits n = ltb n 64 && eqb (bits / 2 ^ n % 2) 1
 
--- no letters
+-- what stands where there is no name
 abbrev pub no_name : CompactName
-no_name = record { letters = replicate 64 0; len = 0; shared = 0; blanks = 0 }
+no_name = record { letters = []; len = 0; shared = 0; blanks = 0 }
 
 -- what a name says alone
 pub record Alone (name : List ℕ) (c : CompactName) : Type 0 where

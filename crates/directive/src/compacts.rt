@@ -1,9 +1,9 @@
 // The names of a book without their blanks, made once for many lines, and all of them held against the letters of one line.
-ghost use Rattle.std.specs.Prelude.{◌≡◌, ◌≤◌, ◌||◌, ◌&&◌, ℕ, List, length, take, get_or, leb, false};
+ghost use Rattle.std.specs.Prelude.{◌≡◌, ◌≤◌, ◌||◌, ◌&&◌, ℕ, List, [], length, take, get_or, leb, false};
 ghost use Rattle.rulebook.specs.Book.{book_of};
 ghost use Rattle.directive.specs.Name.{compact};
 ghost use Rattle.directive.specs.Steps.{RunAlike, Counted};
-ghost use Rattle.directive.specs.Compacts.{Compacts, Agreed, Alone, no_name, has_bit};
+ghost use Rattle.directive.specs.Compacts.{Compacts, Agreed, Alone, has_bit};
 
 use crate::foreseen::{PLACES, Places, Tally, run_alike};
 use ascii::class::is_space;
@@ -62,7 +62,7 @@ fn mark_bits(bits: u64, heads: &mut [bool; PLACES])
 
 impl CompactName {
     fn none() -> CompactName
-        ensures { result ≡ no_name }
+        ensures { Alone [] result }
     {
         CompactName {
             letters: [0; LONGEST],

@@ -7,7 +7,7 @@ use Rattle.directive.specs.Compacts.{Agreed}
 use Rattle.directive.proofs.Long.{short-book}
 use Rattle.directive.proofs.Placing.{few-directives}
 use Rattle.directive.proofs.Tallying.{names_of, length-names}
-use Rattle.directive.proofs.Compacting.{name-at, name-behind, rest-behind, short-at, alone-none, sharing, alone-sharing, made-next}
+use Rattle.directive.proofs.Compacting.{name-at, name-behind, rest-behind, short-at, sharing, alone-sharing, made-next}
 use Rattle.directive.proofs.compacts.CompactNames.of.Goals as goal
 
 pub loop-name-init : goal.loop-name-init
@@ -19,7 +19,7 @@ loop-name-init c =
       few = omega (arith, n);
       long = refl;
       rest = sym e;
-      before = rw c.none-before.ensures alone-none;
+      before = c.none-before.ensures;
       each = λ i l. absurd (omega arith);
     }
 

@@ -1,9 +1,18 @@
-use Rattle.std.proofs.Common.{◌≡◌, ◌≤◌, ◌||◌, ◌&&◌, ℕ, List, length, take, get_or, leb, false, ◌+◌, ◌-◌, ◌*◌, ◌<◌}
+-- The names before the one at hand are counted, and how far the letters agree with the last of them is known.
+use Rattle.std.proofs.Common.{◌≡◌, [], ◌∷◌, length, drop, get_or}
 use Rattle.rulebook.specs.Book.{book_of}
 use Rattle.directive.specs.Name.{compact}
-use Rattle.directive.specs.Steps.{RunAlike, Counted}
-use Rattle.directive.specs.Compacts.{Compacts, Agreed, Alone, no_name, has_bit}
+use Rattle.directive.specs.Compacts.{Agreed}
+use Rattle.directive.proofs.Tallying.{names_of}
+use Rattle.directive.proofs.Counting.{Counting, marked_too}
 use Rattle.directive.proofs.compacts.CompactNames.places.Given as goal
 
 abbrev pub invariant-loop-number : goal.invariant-loop-number
-invariant-loop-number l = ?
+invariant-loop-number l =
+    let names = names_of (book_of l.book.bytes.now).directives in
+    record {
+      room : length l.heads ≡ 129;
+      long : length l.ends ≡ 129;
+      agreed : Agreed (compact (get_or ([] ∷ names) l.number [])) l.letters l.run;
+      counting : Counting l.letters names (drop l.number names) l.number (marked_too l.heads l.blanks) l.ends;
+    }
