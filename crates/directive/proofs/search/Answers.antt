@@ -101,7 +101,7 @@ pub returns-clause-ends : goal.returns-clause-ends
 returns-clause-ends c =
     let l = c.loop-outlook in
     rw (c.ok_or.ensures.value, c.at.ensures)
-    (finished-ends c.args.from c.args.start (length c.args.text.now) c.loop-outlook-test.found c.requires.0 c.requires.1
+    (finished-ends c.args.from c.args.start (length c.args.text.now) c.loop-outlook-test.found c.requires.bounds.0 c.requires.bounds.1
     (elim c.loop-outlook-test.branch [
       | else-loop-outlook-test w ↦ rw w.found-is l.invariant.good
       | then-loop-outlook-test+then-is_err+in_ok-skip w ↦ rw w.found-is l.invariant.good
