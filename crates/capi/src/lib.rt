@@ -17,6 +17,7 @@ use coded::lines::LineReader;
 use coded::parts::answer_parts;
 use coded::sequences::SequenceReader;
 use coded::{code_of, count_code, dialect_of, language_of, line_code, separator_of, sequence_code};
+use directive::compacts::CompactNames;
 use rulebook::index::Index;
 
 // Trim: the length of what is left, and its start and end in the two lent numbers.
@@ -165,10 +166,13 @@ pub extern "C" fn pelzurda_lines(
         ≡ lines_call (language_of language) (prefix_of prefix) book.now lines.now ends.now (length text.old) (length map.old) slots (length answers.old) }
 {
     let mut index = Index::new();
+    let checked = rulebook::checked(book, &mut index);
+    let compacts = CompactNames::for_lines(&checked);
     let mut reader = LineReader {
         dialect: dialect_of(language, prefix),
         book,
-        checked: rulebook::checked(book, &mut index),
+        checked,
+        compacts: compacts.as_ref(),
         text,
         map,
         slots,

@@ -1,12 +1,15 @@
 // The answers of many lines under one check of their book.
 ghost use Rattle.std.specs.Prelude.{◌≡◌, length};
+ghost use Rattle.std.specs.Option.{option_copied};
 ghost use Rattle.refusal.specs.Answer.{told};
 ghost use Rattle.rulebook.specs.Judged.{Judged, Judged-prop};
+ghost use Rattle.directive.specs.Compacts.{IfChecked, IfChecked-prop};
 ghost use Rattle.coded.specs.Coded.{coded_reading};
 ghost use Rattle.reader.specs.Calls.{line_call};
 
 use crate::code_of;
 use crate::parts::AnswerPart;
+use directive::compacts::CompactNames;
 use lexer::Dialect;
 use reader::{Reading, many};
 use refusal::Refusal;
@@ -34,11 +37,14 @@ pub struct LineReader<'a, 'b> {
     pub dialect: Dialect,
     pub book: &'a [u8],
     pub checked: Result<CheckedBook<'a>, Refusal>,
+    // made once for all lines, if any
+    pub compacts: Option<&'a CompactNames>,
     pub text: &'b mut [u8],
     pub map: &'b mut [u16],
     // record slots that a line may take
     pub slots: usize,
     pub ghost judged: { Judged book.now checked } by { Judged-prop book.now checked },
+    pub ghost made: { IfChecked checked (option_copied compacts) } by { IfChecked-prop checked (option_copied compacts) },
 }
 
 impl AnswerPart<5> for LineReader<'_, '_> {
@@ -48,6 +54,7 @@ impl AnswerPart<5> for LineReader<'_, '_> {
         line_numbers(many::line_answer(
             self.dialect,
             &self.checked,
+            self.compacts,
             line,
             self.text,
             self.map,

@@ -1,13 +1,12 @@
 -- The names of a book are counted one after another: what is counted so far, and what those that are left will add, is what all of them make.
 -- A step for a name that is marked. Assumes nothing.
 use mathlib.Core.Path.{◌≡◌, refl, sym, ap, ◌∙◌}
-use mathlib.Core.Bool.{Bool, true, false, cond, ◌&&◌, ◌||◌, and-true, and-false, or-true, or-false}
+use mathlib.Core.Bool.{Bool, true, false, cond, ◌&&◌, ◌||◌, and-false, or-true, or-false}
 use mathlib.Core.List.{List, [], ◌∷◌}
 use Prim.Native.Nat.{ℕ, ◌+◌, ◌<◌, ◌≤◌}
 use native.Mathlib.Numerals.{add-one}
 use native.Mathlib.Omega.{arith}
 use lib.ListN.{length, take, get_or, set, length-take}
-use lib.Bits.{bit_and}
 use lib.Dec.{eqb, leb}
 use borrow.Author.Tests.{eqb-true, eqb-false, le-leb, lt-leb}
 use Rattle.std.specs.Int.RustNames.{bit_or}
@@ -19,7 +18,7 @@ use Rattle.rulebook.specs.Book.{Book}
 use Rattle.directive.specs.declared.foreseen.Tally.{Tally}
 use Rattle.directive.specs.declared.foreseen.Tally.TheVariants.{Zero}
 use Rattle.directive.specs.Name.{compact, same_compact, head_from}
-use Rattle.directive.specs.Steps.{OfEach, HeadsMarked, EndTold, Counted, one_more, tally}
+use Rattle.directive.specs.Steps.{OfEach, EndTold, Counted, one_more, tally}
 use Rattle.directive.specs.declared.compacts.CompactName.{CompactName}
 use Rattle.directive.specs.Compacts.{Agreed, Alone, has_bit}
 use Rattle.directive.proofs.Marking.{or-assoc}

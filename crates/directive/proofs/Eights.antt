@@ -15,7 +15,7 @@ use Rattle.ascii.specs.Text.{same_by}
 use Rattle.ascii.proofs.Flags.{by_cases, and_left, and_right}
 use Rattle.directive.specs.Steps.{alike_to, RunAlike}
 
-and-assoc : (a b c : Bool) → ((a && b) && c) ≡ (a && (b && c))
+pub and-assoc : (a b c : Bool) → ((a && b) && c) ≡ (a && (b && c))
 and-assoc true b c = refl
 and-assoc false b c = refl
 

@@ -1,7 +1,7 @@
--- Laws of how many bytes two texts begin with alike, case ignored: more of them, by way of a third text, and what it tells of a name without its blanks and a
--- beginning of letters. By places, and by structure. Assumes nothing.
+-- Laws of how many bytes two texts begin with alike, case ignored: more of them, and what it tells of a name without its blanks and a beginning of letters.
+-- By places, and by structure. Assumes nothing.
 use mathlib.Core.Path.{◌≡◌, refl, sym, ◌∙◌}
-use mathlib.Core.Bool.{Bool, true, false, cond, ◌&&◌, ◌||◌, or-false}
+use mathlib.Core.Bool.{Bool, true, false, cond, ◌&&◌, ◌||◌}
 use mathlib.Core.List.{List, [], ◌∷◌}
 use Prim.Native.Nat.{ℕ, zero, suc, ◌+◌, ◌-◌, ◌<◌, ◌≤◌}
 use native.Mathlib.Omega.{arith}
@@ -17,6 +17,7 @@ use Rattle.directive.specs.Name.{compact, same_compact, head_from}
 use Rattle.directive.specs.Steps.{RunAlike}
 use Rattle.directive.specs.Compacts.{Agreed, blank_behind}
 use Rattle.directive.proofs.Beginning.{follows}
+use Rattle.directive.proofs.Eights.{and-assoc}
 use Rattle.directive.proofs.Marking.{head-letters}
 
 -- one byte more, and so many that follow
@@ -43,30 +44,6 @@ alike-run a b n k (l, m, f) (p, q, g) =
         let z : n + (i - n) ≡ i = omega arith in
         rw (get_or-drop n a (i - n) 0, get_or-drop n b (i - n) 0, z) at (g (i - n) (omega arith)))
 
--- a text y, of which is known how far it goes with x, and of x how far it goes with t
-module _ (y x t : List ℕ) (s a : ℕ) (of-y : Agreed y x s) (of-x : Agreed x t a) where
-  both : (m : ℕ) → m < s → m < a → eqb (fold (get_or y m 0)) (fold (get_or t m 0)) ≡ true
-  both m l k = let e = eqb-true (fold (get_or y m 0)) (fold (get_or x m 0)) (of-y.0.2 m l) in rw e (of-x.0.2 m k)
-
-  pub third-less : s < a → Agreed y t s
-  third-less l = ((of-y.0.0, omega (arith, of-x.0.1), λ m k. both m k (omega arith)), stop)
-    where
-      stop : s < length y → s < length t → eqb (fold (get_or y s 0)) (fold (get_or t s 0)) ≡ false
-      stop p q =
-          let e = eqb-true (fold (get_or x s 0)) (fold (get_or t s 0)) (of-x.0.2 s l) in
-          rw e at (of-y.1 p (omega (arith, of-x.0.0)))
-
-  pub third-more : a < s → Agreed y t a
-  third-more l = ((omega (arith, of-y.0.0), of-x.0.1, λ m k. both m (omega arith) k), stop)
-    where
-      stop : a < length y → a < length t → eqb (fold (get_or y a 0)) (fold (get_or t a 0)) ≡ false
-      stop p q =
-          let e = eqb-true (fold (get_or y a 0)) (fold (get_or x a 0)) (of-y.0.2 a l) in
-          rw e (of-x.1 (omega (arith, of-y.0.1)) q)
-
-  pub third-same : s ≡ a → RunAlike y t a
-  third-same e = (omega (arith, of-y.0.0), of-x.0.1, λ m k. both m (omega arith) k)
-
 -- a text begins with letters, case ignored
 unfoldable begun : List ℕ → List ℕ → Bool
 begun [] xs = true
@@ -88,28 +65,20 @@ follows-begun (x ∷ xs) [] = go (is_space x) (eqb x 32) (follows-begun xs [])
     go false false h = rw (ne_eqb 0 (suc (length (compact xs))) (omega arith))
 follows-begun (x ∷ xs) (y ∷ ys) = go (is_space x) (follows-begun xs (y ∷ ys)) (follows-begun xs ys)
   where
-    and-assoc : (a b c : Bool) → (a && (b && c)) ≡ ((a && b) && c)
-    and-assoc true b c = refl
-    and-assoc false b c = refl
-
     go : (s : Bool) → follows true true fold xs (y ∷ ys) ≡ (begun (y ∷ ys) (compact xs) && (blank_behind xs (suc (length ys)) || eqb (suc (length ys)) (length (compact xs))))
         → follows true true fold xs ys ≡ (begun ys (compact xs) && (blank_behind xs (length ys) || eqb (length ys) (length (compact xs))))
         → cond s (follows true true fold xs (y ∷ ys)) (eqb (fold x) (fold y) && follows true true fold xs ys)
         ≡ (begun (y ∷ ys) (cond s (compact xs) (x ∷ compact xs))
         && (blank_behind xs (cond s (suc (length ys)) (length ys)) || eqb (suc (length ys)) (length (cond s (compact xs) (x ∷ compact xs)))))
     go true h k = h
-    go false h k = rw (k, eqb-suc-suc) (and-assoc (eqb (fold x) (fold y)) (begun ys (compact xs)) (blank_behind xs (length ys) || eqb (length ys) (length (compact xs))))
+    go false h k = rw (k, eqb-suc-suc) (sym (and-assoc (eqb (fold x) (fold y)) (begun ys (compact xs)) (blank_behind xs (length ys) || eqb (length ys) (length (compact xs)))))
 
 same-begun : (a d : List ℕ) → same_by fold a d ≡ (begun d a && eqb (length d) (length a))
 unfolding same_by begun
 same-begun [] [] = refl
 same-begun [] (y ∷ ys) = refl
 same-begun (x ∷ xs) [] = rw (ne_eqb 0 (suc (length xs)) (omega arith))
-same-begun (x ∷ xs) (y ∷ ys) = rw (same-begun xs ys, eqb-suc-suc) (and-assoc (eqb (fold x) (fold y)) (begun ys xs) (eqb (length ys) (length xs)))
-  where
-    and-assoc : (a b c : Bool) → (a && (b && c)) ≡ ((a && b) && c)
-    and-assoc true b c = refl
-    and-assoc false b c = refl
+same-begun (x ∷ xs) (y ∷ ys) = rw (same-begun xs ys, eqb-suc-suc) (sym (and-assoc (eqb (fold x) (fold y)) (begun ys xs) (eqb (length ys) (length xs))))
 
 -- how far letters go with a text tells which of their beginnings it has
 agreed-next : (x y : ℕ) (xs ys : List ℕ) (r : ℕ) → Agreed (x ∷ xs) (y ∷ ys) (suc r) → Agreed xs ys r

@@ -1,7 +1,10 @@
 -- The names of a book without their blanks, as they are made once for many lines.
-use Rattle.std.specs.Prelude.{ℕ, zero, suc, ◌+◌, ◌/◌, ◌%◌, ◌^◌, ◌≤◌, ◌<◌, ◌≡◌, Bool, true, false, cond, ◌&&◌, ◌||◌, List, [], ◌∷◌, map, length, take, get_or, eqb, ltb, Option, Some, None}
+use Rattle.std.specs.Prelude.{ℕ, zero, suc, ◌/◌, ◌%◌, ◌^◌, ◌≤◌, ◌<◌, ◌≡◌, Bool, false, cond, ◌&&◌, ◌||◌, List, [], ◌∷◌, map, length, take, get_or, eqb, ltb, Option, Some, None, Result, Ok, Err}
+use denote.Struct.Props as logic
 use Rattle.ascii.specs.Ascii.{is_space, fold}
-use Rattle.rulebook.specs.Book.{Book}
+use Rattle.refusal.specs.declared.Refusal.{Refusal}
+use Rattle.rulebook.specs.Book.{Book, book_of}
+use Rattle.rulebook.specs.declared.CheckedBook.{CheckedBook}
 use Rattle.directive.specs.declared.compacts.CompactName.{CompactName}
 use Rattle.directive.specs.declared.compacts.CompactNames.{CompactNames}
 use Rattle.directive.specs.Name.{compact}
@@ -46,3 +49,14 @@ Compacts book c = (i : ℕ) → i < length book.directives
 abbrev pub IfCompacts : Book → Option CompactNames → Type 0
 IfCompacts book None = Unit {0}
 IfCompacts book (Some c) = Compacts book c
+
+-- the same under a book as its check left it
+abbrev pub IfChecked : Result CheckedBook Refusal → Option CompactNames → Type 0
+IfChecked (Ok b) compacts = IfCompacts (book_of b.bytes.now) compacts
+IfChecked (Err r) compacts = Unit {0}
+
+-- that has one proof at most, so it may be a ghost field
+pub IfChecked-prop : (r : Result CheckedBook Refusal) (compacts : Option CompactNames) → IsProp (IfChecked r compacts)
+IfChecked-prop (Ok b) (Some c) = Prim.hlevel logic.props
+IfChecked-prop (Ok b) None = Prim.hlevel logic.props
+IfChecked-prop (Err r) compacts = Prim.hlevel logic.props

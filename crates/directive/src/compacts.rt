@@ -3,11 +3,12 @@ ghost use Rattle.std.specs.Prelude.{◌≡◌, ◌≤◌, ◌||◌, ◌&&◌, �
 ghost use Rattle.rulebook.specs.Book.{book_of};
 ghost use Rattle.directive.specs.Name.{compact};
 ghost use Rattle.directive.specs.Steps.{RunAlike, Counted};
-ghost use Rattle.directive.specs.Compacts.{Compacts, Agreed, Alone, has_bit};
+ghost use Rattle.directive.specs.Compacts.{Compacts, IfChecked, Agreed, Alone, has_bit};
 
 use crate::foreseen::{PLACES, Places, Tally, run_alike};
 use ascii::class::is_space;
 use ascii::same_byte;
+use refusal::Refusal;
 use rulebook::CheckedBook;
 
 // The most bytes of a name.
@@ -140,6 +141,16 @@ impl CompactNames {
             number += 1;
         }
         CompactNames { names }
+    }
+
+    // For many lines under a book as its check left it: none where no line asks for them, as blanks in names are not optional.
+    pub fn for_lines(book: &Result<CheckedBook, Refusal>) -> Option<CompactNames>
+        ensures { IfChecked book.now result }
+    {
+        match book {
+            Ok(book) if book.header.optional_blanks => Some(CompactNames::of(book)),
+            _ => None,
+        }
     }
 
     // What they say of letters.

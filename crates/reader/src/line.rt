@@ -25,7 +25,7 @@ pub(crate) fn read_up_to(
     source::check_fit(line, text.len(), map.len())?;
     let mut index = Index::new();
     let book = rulebook::checked(book, &mut index)?;
-    let head = heading::head_of_fit(dialect, &book, line, text, map, records.len())?;
+    let head = heading::head_of_fit(dialect, &book, None, line, text, map, records.len())?;
     let end = read_clauses(&book, &text[..head.length], head.start, records)?;
     text[head.length..].fill(0);
     map[head.length + 1..].fill(0);

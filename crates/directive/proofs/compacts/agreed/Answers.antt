@@ -1,5 +1,5 @@
 -- `agreed` meets its contract: the bytes that are known, those by eights, those one by one, and one that differs or is none.
-use Rattle.std.proofs.Common.{◌≡◌, ◌≤◌, ◌+◌, length, sym, ◌∙◌, arith}
+use Rattle.std.proofs.Common.{sym, ◌∙◌, arith}
 use Rattle.directive.proofs.Marking.{rest-whole}
 use Rattle.directive.proofs.Sharing.{alike-more, alike-run}
 use lib.ListN.{length-drop}

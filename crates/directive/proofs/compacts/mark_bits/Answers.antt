@@ -1,5 +1,5 @@
 -- `mark_bits` meets its contract: a place more is marked, where its bit is 1.
-use Rattle.std.proofs.Common.{ℕ, Bool, ◌≡◌, ◌||◌, ◌/◌, ◌%◌, ◌^◌, get_or, false, refl, sym, ap, ◌∙◌, arith}
+use Rattle.std.proofs.Common.{◌||◌, ◌/◌, ◌%◌, ◌^◌, get_or, false, sym, ◌∙◌, arith}
 use mathlib.Core.Bool.{or-false}
 use lib.Dec.{eqb}
 use lib.ListN.{length-set}

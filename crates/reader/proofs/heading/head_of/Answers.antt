@@ -20,4 +20,4 @@ start_at-requires c =
 pub returns : goal.returns
 returns c =
     let a = c.args in
-    (refl, rw c.start_at.ensures (heads-found a.book.now.bytes.now a.text.now a.dialect.language a.dialect.prefix a.slots c.in_ok-name.name (sym (ap told c.in_ok-name.was) ∙ c.read_name.ensures) c.requires))
+    (refl, rw c.start_at.ensures (heads-found a.book.now.bytes.now a.text.now a.dialect.language a.dialect.prefix a.slots c.in_ok-name.name (sym (ap told c.in_ok-name.was) ∙ c.read_name.ensures) c.requires.short))

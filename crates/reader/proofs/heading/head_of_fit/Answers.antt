@@ -13,17 +13,17 @@ returns-in_err-check_line c =
     let a = c.args in
     let b = a.book.now in
     let p = err_from_is_err_and c.from_residual.result c.from_residual.ensures.1 in
-    rw (p.1, p.2) (line-physical a.dialect.language a.dialect.prefix b.bytes.now a.line.now (length a.text.now) (length a.map.now) a.slots c.in_err-check_line.field-0.0 c.requires b.valid
+    rw (p.1, p.2) (line-physical a.dialect.language a.dialect.prefix b.bytes.now a.line.now (length a.text.now) (length a.map.now) a.slots c.in_err-check_line.field-0.0 c.requires.fits b.valid
     (rw (book-case b.bytes.now b.header b.header_read) (sym c.check_line.ensures ∙ c.in_err-check_line.was)))
 
 pub join_into-n-requires : goal.join_into-n-requires
 join_into-n-requires c =
-    let f = fit-bounds c.args.line.now (length c.args.text.now) (length c.args.map.now) c.requires in
+    let f = fit-bounds c.args.line.now (length c.args.text.now) (length c.args.map.now) c.requires.fits in
     record { line_len_bound = f.0; line_in_bounds = f.1; line_in_bounds_2 = f.2 }
 
 pub head_of-requires : goal.head_of-requires
 head_of-requires c =
-    let f = fit-bounds c.args.line.now (length c.args.text.now) (length c.args.map.now) c.requires in
+    let f = fit-bounds c.args.line.now (length c.args.text.now) (length c.args.map.now) c.requires.fits in
     omega (arith, f.0, c.join_into-n.ensures.within, length-take {A = ℕ})
 
 pub returns : goal.returns
@@ -31,8 +31,8 @@ returns c =
     let a = c.args in
     let b = a.book.now in
     let r = c.join_into-n in
-    let f = fit-bounds a.line.now (length a.text.now) (length a.map.now) c.requires in
-    let e = line_read a.dialect.language a.dialect.prefix b.bytes.now a.line.now (length a.text.now) (length a.map.now) a.slots c.requires b.valid
+    let f = fit-bounds a.line.now (length a.text.now) (length a.map.now) c.requires.fits in
+    let e = line_read a.dialect.language a.dialect.prefix b.bytes.now a.line.now (length a.text.now) (length a.map.now) a.slots c.requires.fits b.valid
     (rw (book-case b.bytes.now b.header b.header_read) (sym c.check_line.ensures ∙ c.in_ok-check_line.was)) in
     let m : r.result ≤ length r.new.text = omega (arith, f.1, r.ensures.within) in
     let k : r.result < length r.new.map = omega (arith, f.2, r.ensures.within) in

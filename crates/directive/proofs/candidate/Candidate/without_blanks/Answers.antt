@@ -1,8 +1,5 @@
 -- `without_blanks` meets its contract: each byte that is no blank is kept.
-use Rattle.std.proofs.Common.{◌≡◌, ◌++◌, ◌+◌, ◌<◌, ◌∷◌, ℕ, List, take, drop, length, get_or, true, false, sym, ap, ◌∙◌, arith, append_assoc, append-nil}
-use Rattle.ascii.specs.Ascii.{is_space}
-use native.Mathlib.Numerals.{add-one}
-use lib.Seq.{drop-cons}
+use Rattle.std.proofs.Common.{◌++◌, ◌<◌, ℕ, List, take, length, get_or, sym, ap, ◌∙◌, arith, append_assoc, append-nil}
 use lib.ListN.{drop_of_length-le, length-set}
 use Rattle.std.proofs.lemmas.List.{take_more_set}
 use Rattle.directive.specs.Name.{compact}

@@ -1,14 +1,11 @@
 -- `of` meets its contract: a letter is kept, a blank is marked.
-use Rattle.std.proofs.Common.{◌≡◌, ◌++◌, ◌+◌, ◌<◌, [], ◌∷◌, ◌||◌, ◌&&◌, ℕ, Bool, List, take, drop, length, get_or, true, false, refl, sym, ap, ◌∙◌, arith, append_assoc, append-nil}
+use Rattle.std.proofs.Common.{◌≡◌, ◌++◌, ◌+◌, ◌<◌, [], ◌||◌, ◌&&◌, ℕ, Bool, List, take, drop, length, get_or, refl, sym, ap, ◌∙◌, arith, append_assoc, append-nil}
 use mathlib.Core.Bool.{or-false}
-use native.Mathlib.Numerals.{add-one}
 use lib.Dec.{eqb}
-use lib.Seq.{drop-cons}
 use lib.ListN.{drop_of_length-le, length-set}
 use Rattle.std.proofs.lemmas.List.{take_more_set}
-use Rattle.ascii.specs.Ascii.{is_space}
 use Rattle.directive.specs.Name.{compact}
-use Rattle.directive.specs.Compacts.{has_bit, blank_behind}
+use Rattle.directive.specs.Compacts.{has_bit}
 use Rattle.directive.proofs.Marking.{next, or-assoc}
 use Rattle.directive.proofs.Blanks.{blank_from, bits-zero, bits-one, compact-blank, compact-letter, from-none, from-blank, from-letter}
 use Rattle.directive.proofs.compacts.CompactName.of.Goals as goal

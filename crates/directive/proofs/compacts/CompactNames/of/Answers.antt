@@ -1,5 +1,5 @@
 -- `of` meets its contract: each name is made from its letters and those of the one before.
-use Rattle.std.proofs.Common.{◌≡◌, ◌≤◌, ◌<◌, ◌+◌, ℕ, [], ◌∷◌, length, drop, get_or, refl, sym, ap, ◌∙◌, arith}
+use Rattle.std.proofs.Common.{◌≡◌, ◌≤◌, [], ◌∷◌, length, get_or, refl, sym, ap, ◌∙◌, arith}
 use lib.ListN.{length-set, length-drop}
 use Rattle.rulebook.specs.Book.{book_of}
 use Rattle.directive.specs.Name.{compact}

@@ -1,9 +1,8 @@
 -- `places` meets its contract: each name is counted by how far the letters agree with it.
-use Rattle.std.proofs.Common.{◌≡◌, ◌≤◌, ◌<◌, ◌+◌, ◌||◌, ℕ, List, [], ◌∷◌, length, take, drop, get_or, true, false, refl, sym, ap, ◌∙◌, arith}
-use mathlib.Core.Bool.{or-false}
+use Rattle.std.proofs.Common.{◌≡◌, ◌<◌, ◌+◌, ℕ, List, [], ◌∷◌, length, take, drop, get_or, true, false, refl, ap, ◌∙◌, arith}
 use lib.ListN.{replicate, length-set, drop_of_length-le}
 use Rattle.std.proofs.lemmas.List.{get_or-replicate}
-use Rattle.rulebook.specs.Book.{book_of, header_of}
+use Rattle.rulebook.specs.Book.{book_of}
 use Rattle.rulebook.specs.declared.Header.{Header}
 use Rattle.directive.specs.declared.foreseen.Tally.TheVariants.{Zero}
 use Rattle.rulebook.specs.declared.CheckedBook.{CheckedBook}
@@ -79,21 +78,21 @@ loop-number-preserved c =
     let f = c.requires.fits in
     elim c.if-run-name.branch [
       | then-run-name w ↦ record {
-          room = rw w.heads-is (length-set l.heads r true ∙ i.room);
-          long = rw w.ends-is (length-set l.ends r w.and.result ∙ i.long);
-          agreed = next;
-          counting = rw (w.heads-is, w.ends-is, w.and.ensures)
-              (counting-end t (get_or ns l.number []) ns (drop (l.number + 1) ns) l.number l.heads l.blanks l.ends so _ a r c.up_to-blanks.result g c.up_to-blanks.ensures
-              (omega (arith, i.long, f)) (omega (arith, i.room, f)) w.if-run-name.true);
-        }
+        room = rw w.heads-is (length-set l.heads r true ∙ i.room);
+        long = rw w.ends-is (length-set l.ends r w.and.result ∙ i.long);
+        agreed = next;
+        counting = rw (w.heads-is, w.ends-is, w.and.ensures)
+            (counting-end t (get_or ns l.number []) ns (drop (l.number + 1) ns) l.number l.heads l.blanks l.ends so _ a r c.up_to-blanks.result g c.up_to-blanks.ensures
+            (omega (arith, i.long, f)) (omega (arith, i.room, f)) w.if-run-name.true);
+      }
       | else-run-name w ↦ record {
-          room = rw w.heads-is i.room;
-          long = rw w.ends-is i.long;
-          agreed = next;
-          counting = rw (w.heads-is, w.ends-is)
-              (counting-past t (get_or ns l.number []) ns (drop (l.number + 1) ns) l.number l.heads l.blanks l.ends so _ a r c.up_to-blanks.result g c.up_to-blanks.ensures
-              (omega (arith, i.long, f)) (omega (arith, i.room, f)) w.if-run-name.false);
-        }
+        room = rw w.heads-is i.room;
+        long = rw w.ends-is i.long;
+        agreed = next;
+        counting = rw (w.heads-is, w.ends-is)
+            (counting-past t (get_or ns l.number []) ns (drop (l.number + 1) ns) l.number l.heads l.blanks l.ends so _ a r c.up_to-blanks.result g c.up_to-blanks.ensures
+            (omega (arith, i.long, f)) (omega (arith, i.room, f)) w.if-run-name.false);
+      }
     ]
 
 pub returns : goal.returns

@@ -1,7 +1,4 @@
 -- `of` meets its contract: the letters are those of the candidate and of words behind it, and the names are counted in one way or the other.
-use Rattle.std.proofs.Common.{◌≡◌}
-use Rattle.rulebook.specs.Book.{book_of}
-use Rattle.directive.specs.Steps.{Counted}
 use Rattle.directive.proofs.Foreseeing.{letters-solid, letters-begin}
 use Rattle.directive.proofs.foreseen.Foreseen.of.Goals as goal
 use Rattle.directive.proofs.foreseen.Foreseen.of.Goals.{in-Some, in-None}
