@@ -21,8 +21,8 @@ join_into-n-requires c =
     let f = fit-bounds c.args.line.now (length c.args.text.now) (length c.args.map.now) c.requires.fits in
     record { line_len_bound = f.0; line_in_bounds = f.1; line_in_bounds_2 = f.2 }
 
-pub head_of-requires : goal.head_of-requires
-head_of-requires c =
+pub head_of-requires-clause-short : goal.head_of-requires-clause-short
+head_of-requires-clause-short c =
     let f = fit-bounds c.args.line.now (length c.args.text.now) (length c.args.map.now) c.requires.fits in
     omega (arith, f.0, c.join_into-n.ensures.within, length-take {A = ℕ})
 
