@@ -33,12 +33,12 @@ pub fn line_numbers(answer: Result<Reading, Refusal>) -> [u64; 5]
 
 // What a line is read with: its book as the check left it, and working space. What text and map hold after a line is not said.
 #[derive(Drop)]
-pub struct LineReader<'a, 'b> {
+pub struct LineReader<'a, 'b, 'c> {
     pub dialect: Dialect,
     pub book: &'a [u8],
     pub checked: Result<CheckedBook<'a>, Refusal>,
-    // made once for all lines, if any
-    pub compacts: Option<&'a CompactNames>,
+    // made once for all lines, if any; they live shorter than what the book is checked with
+    pub compacts: Option<&'c CompactNames>,
     pub text: &'b mut [u8],
     pub map: &'b mut [u16],
     // record slots that a line may take
@@ -47,7 +47,7 @@ pub struct LineReader<'a, 'b> {
     pub ghost made: { IfChecked checked (option_copied compacts) } by { IfChecked-prop checked (option_copied compacts) },
 }
 
-impl AnswerPart<5> for LineReader<'_, '_> {
+impl AnswerPart<5> for LineReader<'_, '_, '_> {
     ghost answers = { λ r line. coded_reading (line_call r.dialect.language r.dialect.prefix r.book.now line (length r.text.now) (length r.map.now) r.slots).answer };
 
     fn answer(&mut self, line: &[u8]) -> [u64; 5] {
