@@ -8,7 +8,7 @@ use native.Mathlib.Omega.{arith}
 use lib.ListN.{length, take, drop, get_or, length-drop, length-take}
 use lib.Seq.{get_or-drop}
 use lib.Dec.{eqb, leb, ltb}
-use borrow.Author.Tests.{eqb-true, ne_eqb, ltb-true, ltb-false, le-leb, lt-leb}
+use borrow.Author.Tests.{ne_eqb, ltb-true, ltb-false, le-leb, lt-leb}
 use Rattle.std.proofs.Math.Dec.{eqb-suc-suc, leb-suc-suc}
 use Rattle.ascii.specs.Ascii.{is_space, fold}
 use Rattle.ascii.specs.Text.{same_by}

@@ -46,7 +46,7 @@ fn agreed(a: &[u8], b: &[u8], known: usize) -> usize
 }
 
 // The places of a number of 64 bits up to one.
-fn up_to(blanks: u64, place: usize) -> u64
+fn bits_to(blanks: u64, place: usize) -> u64
     ensures { (n : ℕ) → has_bit result n ≡ (has_bit blanks n && leb n place) }
 {
     blanks & (u64::MAX >> (63 - place.min(63)))
@@ -166,7 +166,7 @@ impl CompactNames {
         for number in 0..book.header.directives.count {
             let name = &self.names[number];
             run = name.run_behind(run, letters);
-            blanks = blanks | up_to(name.blanks, run);
+            blanks = blanks | bits_to(name.blanks, run);
             if run == name.len {
                 heads[run] = true;
                 ends[run] = ends[run].and(number as u8);

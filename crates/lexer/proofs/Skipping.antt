@@ -15,7 +15,7 @@ use Rattle.ascii.proofs.Flags.{and_left, and_right, or-none, by_cases}
 use Rattle.refusal.specs.declared.Reason.TheVariants.{UnclosedComment}
 use Rattle.refusal.specs.Verdict.{refusal_at}
 use Rattle.lexer.specs.Continuation.{break_c, break_f}
-use Rattle.lexer.specs.Trivia.{trivia_c, trivia_f, trivia_of, is_solid, skip_from, skip}
+use Rattle.lexer.specs.Trivia.{trivia_c, trivia_f, trivia_of, no_trivia, skip_from, skip}
 
 -- skipping is dropping
 skip-pass : (f : Bool) (k at : ℕ) (xs : List ℕ) → k ≤ length xs → skip_from f k at xs ≡ skip_from f 0 (at + k) (drop k xs)
@@ -53,7 +53,7 @@ module _ (f : Bool) (s : List ℕ) (i : ℕ) where
   skip-run n h e g = rw (← drop-drop n i s) (skip_first f i (drop i s) n e g (rw length-drop (omega arith)))
 
 -- where no trivia begins, and where a blank stands before such a byte
-solid-parts : (b : ℕ) → is_solid b ≡ true → (32 < b) × (eqb b 33 ≡ false) × (eqb b 38 ≡ false) × (eqb b 47 ≡ false) × (eqb b 92 ≡ false)
+solid-parts : (b : ℕ) → no_trivia b ≡ true → (32 < b) × (eqb b 33 ≡ false) × (eqb b 38 ≡ false) × (eqb b 47 ≡ false) × (eqb b 92 ≡ false)
 solid-parts b e =
     let m = eqb b 33 || eqb b 38 || eqb b 47 || eqb b 92 in
     let n = or-none (eqb b 33 || eqb b 38 || eqb b 47) (eqb b 92) (not-true m (and_right (ltb 32 b) (not m) e)) in
@@ -64,7 +64,7 @@ solid-parts b e =
 space-none : (b : ℕ) → 32 < b → is_space b ≡ false
 space-none b h = rw (lt-leb b 13 (omega arith), ne_eqb b 32 (λ e. absurd (omega (arith, e, h))), and-false (leb 9 b)) refl
 
-solid-none : (f : Bool) (xs : List ℕ) → is_solid (get_or xs 0 0) ≡ true → trivia_of f xs ≡ Some 0
+solid-none : (f : Bool) (xs : List ℕ) → no_trivia (get_or xs 0 0) ≡ true → trivia_of f xs ≡ Some 0
 unfolding trivia_c trivia_f break_c break_f
 solid-none false xs e = let p = solid-parts (get_or xs 0 0) e in rw (p.4, space-none (get_or xs 0 0) p.0, p.3) refl
 solid-none true xs e = let p = solid-parts (get_or xs 0 0) e in rw (p.2, space-none (get_or xs 0 0) p.0, p.1) refl
@@ -78,12 +78,12 @@ module _ (f : Bool) (s : List ℕ) (i : ℕ) where
   first : get_or (drop i s) 0 0 ≡ get_or s i 0
   first = get_or-drop i s 0 0 ∙ ap (λ k. get_or s k 0) (add-zero i)
 
-  pub skip-solid : i < length s → is_solid (get_or s i 0) ≡ true → skip f s i ≡ Ok i
+  pub skip-solid : i < length s → no_trivia (get_or s i 0) ≡ true → skip f s i ≡ Ok i
   unfolding skip
   skip-solid h e = skip-none f s i h (solid-none f (drop i s) (rw first e))
 
 module _ (f : Bool) (s : List ℕ) (i : ℕ) where
-  pub skip-blank : i < length s → get_or s i 0 ≡ 32 → is_solid (get_or s (i + 1) 0) ≡ true → skip f s i ≡ Ok (i + 1)
+  pub skip-blank : i < length s → get_or s i 0 ≡ 32 → no_trivia (get_or s (i + 1) 0) ≡ true → skip f s i ≡ Ok (i + 1)
   unfolding skip
   skip-blank h e d =
       skip-run f s i 1 (omega arith) (blank-one f (drop i s) (rw (first f s i) e)) (λ z. absurd (omega (arith, z)))

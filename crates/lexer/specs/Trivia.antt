@@ -64,5 +64,5 @@ Fits n (Ok None) = Unit {0}
 Fits n (Err e) = Unit {0}
 
 -- a byte with which no trivia of either language begins, and no control: a matter of speed
-abbrev pub is_solid : ℕ → Bool
-is_solid b = ltb 32 b && not (eqb b 33 || eqb b 38 || eqb b 47 || eqb b 92)
+abbrev pub no_trivia : ℕ → Bool
+no_trivia b = ltb 32 b && not (eqb b 33 || eqb b 38 || eqb b 47 || eqb b 92)

@@ -2,7 +2,7 @@
 ghost use Rattle.std.specs.Prelude.{◌≡◌, ◌≤◌, not, length, IfSome};
 ghost use Rattle.ascii.specs.Text.{up_to};
 ghost use Rattle.lexer.specs.Continuation.{if_any};
-ghost use Rattle.lexer.specs.Trivia.{is_line_feed, trivia_c, trivia_f, trivia_of, Stretch, is_solid, skip as skip_of, Inside, Fits};
+ghost use Rattle.lexer.specs.Trivia.{is_line_feed, trivia_c, trivia_f, trivia_of, Stretch, no_trivia, skip as skip_of, Inside, Fits};
 
 use crate::continuation;
 use ascii::sets::ByteSet;
@@ -77,8 +77,8 @@ fn trivia_of(rest: &[u8], fortran: bool) -> Result<Option<usize>, NoEnd>
 }
 
 // Whether no trivia of either language begins with a byte, by comparisons alone.
-fn is_solid(b: u8) -> bool
-    ensures { result ≡ is_solid b }
+fn no_trivia(b: u8) -> bool
+    ensures { result ≡ no_trivia b }
 {
     (b' ' < b) & !((b == b'!') | (b == b'&') | (b == b'/') | (b == b'\\'))
 }
@@ -112,10 +112,10 @@ pub fn skip(text: &[u8], at: usize, fortran: bool) -> Result<usize, Refusal>
     if at == text.len() {
         return Ok(at);
     }
-    if is_solid(text[at]) {
+    if no_trivia(text[at]) {
         return Ok(at);
     }
-    if text[at] == b' ' && is_solid(ascii::byte_at(text, at + 1)) {
+    if text[at] == b' ' && no_trivia(ascii::byte_at(text, at + 1)) {
         return Ok(at + 1);
     }
     skip_all(text, at, fortran)

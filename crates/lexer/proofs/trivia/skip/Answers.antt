@@ -8,10 +8,10 @@ pub returns-then-at-text-clause-value : goal.returns-then-at-text-clause-value
 unfolding skip
 returns-then-at-text-clause-value c = sym (skip-end c.args.fortran c.args.text.now c.args.at (omega (arith, c.if-at-text.true)))
 
-pub returns-then-is_solid-clause-value : goal.returns-then-is_solid-clause-value
-returns-then-is_solid-clause-value c = sym (skip-solid _ _ _ (omega arith) (sym c.is_solid.ensures ∙ c.if-is_solid.true))
+pub returns-then-no_trivia-clause-value : goal.returns-then-no_trivia-clause-value
+returns-then-no_trivia-clause-value c = sym (skip-solid _ _ _ (omega arith) (sym c.no_trivia.ensures ∙ c.if-no_trivia.true))
 
-pub returns-then-is_solid-2-clause-value : goal.returns-then-is_solid-2-clause-value
-returns-then-is_solid-2-clause-value c =
-    let e = sym c.is_solid-then-text-at-eq32.ensures ∙ c.if-is_solid-2.true in
+pub returns-then-no_trivia-2-clause-value : goal.returns-then-no_trivia-2-clause-value
+returns-then-no_trivia-2-clause-value c =
+    let e = sym c.no_trivia-then-text-at-eq32.ensures ∙ c.if-no_trivia-2.true in
     sym (skip-blank _ _ _ (omega arith) c.if-text-at-eq32.true (rw c.byte_at.ensures at e))

@@ -82,7 +82,7 @@ loop-number-preserved c =
         long = rw w.ends-is (length-set l.ends r w.and.result ∙ i.long);
         agreed = next;
         counting = rw (w.heads-is, w.ends-is, w.and.ensures)
-            (counting-end t (get_or ns l.number []) ns (drop (l.number + 1) ns) l.number l.heads l.blanks l.ends so _ a r c.up_to-blanks.result g c.up_to-blanks.ensures
+            (counting-end t (get_or ns l.number []) ns (drop (l.number + 1) ns) l.number l.heads l.blanks l.ends so _ a r c.bits_to-blanks.result g c.bits_to-blanks.ensures
             (omega (arith, i.long, f)) (omega (arith, i.room, f)) w.if-run-name.true);
       }
       | else-run-name w ↦ record {
@@ -90,7 +90,7 @@ loop-number-preserved c =
         long = rw w.ends-is i.long;
         agreed = next;
         counting = rw (w.heads-is, w.ends-is)
-            (counting-past t (get_or ns l.number []) ns (drop (l.number + 1) ns) l.number l.heads l.blanks l.ends so _ a r c.up_to-blanks.result g c.up_to-blanks.ensures
+            (counting-past t (get_or ns l.number []) ns (drop (l.number + 1) ns) l.number l.heads l.blanks l.ends so _ a r c.bits_to-blanks.result g c.bits_to-blanks.ensures
             (omega (arith, i.long, f)) (omega (arith, i.room, f)) w.if-run-name.false);
       }
     ]
