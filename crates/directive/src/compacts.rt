@@ -1,7 +1,6 @@
 // The names of a book without their blanks, made once for many lines, and all of them held against the letters of one line.
 ghost use Rattle.std.specs.Prelude.{◌≡◌, ◌≤◌, ◌||◌, ◌&&◌, ℕ, List, [], length, take, get_or, leb, false};
 ghost use Rattle.rulebook.specs.Book.{book_of};
-ghost use Rattle.directive.specs.Name.{compact};
 ghost use Rattle.directive.specs.Steps.{RunAlike, Counted};
 ghost use Rattle.directive.specs.Compacts.{Compacts, IfChecked, Agreed, Alone, has_bit};
 
