@@ -180,6 +180,16 @@ fn spaced(count: usize) -> Vec<String> {
         .collect()
 }
 
+/// Directive names in upper case of which every second begins with 30 letters of a line and the others with none of them, so that what one has in common with
+/// the line says nothing of the next.
+fn in_turn(count: usize) -> Vec<String> {
+    let letter = |number: usize| (b'A' + (number % 26) as u8) as char;
+    let begun = |number: usize| if number % 2 == 0 { "P".repeat(30) } else { "Q".to_string() };
+    (0..count)
+        .map(|number| format!("{}{}{}", begun(number), letter(number / 2), letter(number / 52)))
+        .collect()
+}
+
 /// Directive names of which those that fail are asked first, each as late as it can: `p p p ..` grows up to 32 words, and at each the names that have a
 /// letter in the place of one of its blanks.
 fn words_apart(count: usize) -> Vec<String> {
@@ -502,6 +512,12 @@ fn looked_up() -> Vec<Row> {
         "lines free, p..p_, blanks optional",
         Call::Lines { language: FORTRAN_FREE },
         book(3, 2, &spaced(NAMES[2]), &["a".to_string()]),
+        format!("!$omp {}__", "p".repeat(30)),
+    ));
+    rows.push(many_row(
+        "lines free, P..P Q, blanks optional",
+        Call::Lines { language: FORTRAN_FREE },
+        book(3, 2, &in_turn(NAMES[2]), &["a".to_string()]),
         format!("!$omp {}__", "p".repeat(30)),
     ));
     rows.push({

@@ -131,8 +131,9 @@ fn foreign_f(prefix: Prefix, line: &[u8]) -> bool
     ensures { result ≡ foreign_f prefix line.now }
 {
     let rest = unindented(line);
-    let own = continuation::sentinel_ended(rest, prefix);
-    continuation::sentinel_any(rest).is_some() && own.is_none()
+    // mostly its own stands there, and the other's is not asked for
+    continuation::sentinel_ended(rest, prefix).is_none()
+        && continuation::sentinel_any(rest).is_some()
 }
 
 fn foreign(dialect: Dialect, line: &[u8]) -> bool
