@@ -1,6 +1,6 @@
 -- Laws of a book's names without their blanks: the name at hand among those that are left, what is made of it, and of a name more. Assumes nothing.
 use mathlib.Core.Path.{◌≡◌, sym, ap, ◌∙◌}
-use mathlib.Core.List.{List, [], ◌∷◌}
+use mathlib.Core.List.{List, [], ◌∷◌, map}
 use Prim.Native.Nat.{ℕ, zero, suc, ◌+◌, ◌<◌, ◌≤◌}
 use native.Mathlib.Numerals.{add-one}
 use native.Mathlib.Omega.{arith}
@@ -10,6 +10,7 @@ use lib.Dec.{eqb}
 use borrow.Author.Tests.{eqb-true, eqb-false}
 use Rattle.std.proofs.lemmas.List.{get_or-set_same, get_or-set_other}
 use Rattle.rulebook.proofs.Laying.{length-entries}
+use Rattle.ascii.specs.Ascii.{fold}
 use Rattle.ascii.proofs.Flags.{by_cases}
 use Rattle.rulebook.specs.Book.{Entry, Book, book_of, header_of}
 use Rattle.directive.specs.declared.compacts.CompactName.{CompactName}
@@ -67,13 +68,13 @@ module _ (book : Book) (cs : CompactNames) (made : Compacts book cs) (i : ℕ) (
   pub fits-here : (here.shared ≤ here.len) × (here.len ≤ length here.letters)
   fits-here =
       let c = made i l in
-      let n : length (compact name) ≡ here.len = rw (← c.alone.letters) (simp length-take (omega (arith, c.alone.fits, c.alone.long))) in
+      let n : length (map fold (compact name)) ≡ here.len = rw (← c.alone.letters) (simp length-take (omega (arith, c.alone.fits, c.alone.long))) in
       (omega (arith, c.shared.0.0, n), omega (arith, c.alone.fits, c.alone.long))
 
   pub run-here : (t : List ℕ) (run result : ℕ)
       → ((b : List ℕ) → Agreed (take here.len here.letters) b here.shared → Agreed b t run → Agreed (take here.len here.letters) t result)
-      → Agreed (compact before) t run → Agreed (compact name) t result
-  run-here t run result f g = let c = made i l in rw c.alone.letters at (f (compact before)) c.shared g
+      → Agreed (map fold (compact before)) t run → Agreed (map fold (compact name)) t result
+  run-here t run result f g = let c = made i l in rw c.alone.letters at (f (map fold (compact before))) c.shared g
 
   pub left-here : drop i (names_of book.directives) ≡ name ∷ drop (i + 1) (names_of book.directives)
   left-here = rw add-one (drop-cons (names_of book.directives) i [] (omega (arith, l, length-names book.directives)))

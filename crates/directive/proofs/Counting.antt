@@ -2,7 +2,7 @@
 -- A step for a name that is marked. Assumes nothing.
 use mathlib.Core.Path.{◌≡◌, refl, sym, ap, ◌∙◌}
 use mathlib.Core.Bool.{Bool, true, false, cond, ◌&&◌, ◌||◌, and-false, or-true, or-false}
-use mathlib.Core.List.{List, [], ◌∷◌}
+use mathlib.Core.List.{List, [], ◌∷◌, map}
 use Prim.Native.Nat.{ℕ, ◌+◌, ◌<◌, ◌≤◌}
 use native.Mathlib.Numerals.{add-one}
 use native.Mathlib.Omega.{arith}
@@ -10,9 +10,10 @@ use lib.ListN.{length, take, get_or, set, length-take}
 use lib.Dec.{eqb, leb}
 use borrow.Author.Tests.{eqb-true, eqb-false, le-leb, lt-leb}
 use Rattle.std.specs.Int.RustNames.{bit_or}
-use Rattle.std.proofs.lemmas.List.{get_or-set_same, get_or-set_other, length-set}
+use Rattle.std.proofs.lemmas.List.{get_or-set_same, get_or-set_other, length-set, length-map}
 use Rattle.std.specs.Prelude.{Option, Some, None}
 use Rattle.std.specs.List.{list_any}
+use Rattle.ascii.specs.Ascii.{fold}
 use Rattle.ascii.proofs.Flags.{by_cases}
 use Rattle.rulebook.specs.Book.{Book}
 use Rattle.directive.specs.declared.foreseen.Tally.{Tally}
@@ -86,10 +87,13 @@ counting-all book t number now heads ends e so = record {
 
 -- a name more, by its letters and the places of its blanks, if letters agree with it so far
 module _ (t name : List ℕ) (all rest : List (List ℕ)) (number : ℕ) (heads : List Bool) (bits : ℕ) (ends : List Tally)
-    (so : Counting t all (name ∷ rest) number (marked_too heads bits) ends) (here : CompactName) (alone : Alone name here) (run kept : ℕ) (g : Agreed (compact name) t run)
+    (so : Counting t all (name ∷ rest) number (marked_too heads bits) ends) (here : CompactName) (alone : Alone name here) (run kept : ℕ) (g : Agreed (map fold (compact name)) (map fold t) run)
     (k : (n : ℕ) → has_bit kept n ≡ (has_bit here.blanks n && leb n run)) (long : length t < length ends) (room : length t < length heads) where
   size : length (compact name) ≡ here.len
-  size = rw (← alone.letters) (simp length-take (omega (arith, alone.fits, alone.long)))
+  size = sym (length-map (compact name) fold) ∙ rw (← alone.letters) (simp length-take (omega (arith, alone.fits, alone.long)))
+
+  within : run ≤ length t
+  within = omega (arith, g.0.1, length-map t fold)
 
   shuffle : (h b p l e : Bool) → ((h || (l && e)) || (b || (p && l))) ≡ ((h || b) || (l && (p || e)))
   shuffle true b p l e = refl
@@ -112,7 +116,7 @@ module _ (t name : List ℕ) (all rest : List (List ℕ)) (number : ℕ) (heads 
   counting-end e =
       counting-name t all name rest number (marked_too heads bits) ends so (marked_too (set heads run true) (bit_or bits kept)) (Some run)
       (heads-with (set heads run true) (λ n. marked-here n))
-      (g.0.1, λ c n m q. same-run name t run g c n m q ∙ rw (size, ← e) (same-place n)) long
+      (within, λ c n m q. same-run name t run g c n m q ∙ rw (size, ← e) (same-place n)) long
     where
       same-place : (n : ℕ) → (leb n run && eqb n run) ≡ eqb n run
       same-place n = by_cases (eqb n run) (λ w. let z = eqb-true n run w in rw (w, le-leb n run (omega arith))) (λ w. rw (w, and-false (leb n run)))
@@ -121,7 +125,7 @@ module _ (t name : List ℕ) (all rest : List (List ℕ)) (number : ℕ) (heads 
       marked-here n =
           rw (← e, same-place n)
           (by_cases (eqb n run)
-          (λ w. let z : n ≡ run = eqb-true n run w in rw (w, z, or-true, get_or-set_same heads run true false (omega (arith, g.0.1))))
+          (λ w. let z : n ≡ run = eqb-true n run w in rw (w, z, or-true, get_or-set_same heads run true false (omega (arith, within))))
           (λ w. rw (w, or-false, get_or-set_other heads run n true false (eqb-false n run w))))
 
   pub counting-past : (run ≡ here.len → ⊥) → Counting t all rest (number + 1) (marked_too heads (bit_or bits kept)) ends
@@ -133,5 +137,5 @@ module _ (t name : List ℕ) (all rest : List (List ℕ)) (number : ℕ) (heads 
       apart : (n : ℕ) → (leb n run && eqb n here.len) ≡ false
       apart n =
           by_cases (eqb n here.len)
-          (λ w. let z = eqb-true n here.len w in rw (lt-leb n run (omega (arith, g.0.0, size, e))))
+          (λ w. let z = eqb-true n here.len w in rw (lt-leb n run (omega (arith, g.0.0, length-map (compact name) fold, size, e))))
           (λ w. rw (w, and-false (leb n run)))

@@ -10,7 +10,7 @@ use lib.ListN.{length, drop, get_or}
 use lib.Seq.{drop-cons}
 use lib.Dec.{eqb, ltb}
 use borrow.Author.Tests.{eqb-true, eqb-false, eq-eqb, ltb-true, ltb-false}
-use Rattle.ascii.specs.Ascii.{exactly, fold}
+use Rattle.ascii.specs.Ascii.{exactly}
 use Rattle.ascii.specs.Text.{same_by}
 use Rattle.ascii.proofs.Flags.{by_cases, and_left, and_right}
 use Rattle.directive.specs.Steps.{alike_to, RunAlike}
@@ -60,13 +60,13 @@ module _ (f : ℕ → ℕ) where
   eight-behind a b i l e = same-behind 7 a i b i (omega arith) (omega arith)
 
 -- eight more bytes of two texts that begin alike
-pub run-eight : (a b : List ℕ) (n : ℕ) → n + 8 ≤ length a → n + 8 ≤ length b → RunAlike a b n → alike_to fold a n b n 7 ≡ true → RunAlike a b (n + 8)
-run-eight a b n l m (_, _, h) e = (l, m, each)
+pub run-eight : (f : ℕ → ℕ) (a b : List ℕ) (n : ℕ) → n + 8 ≤ length a → n + 8 ≤ length b → RunAlike f a b n → alike_to f a n b n 7 ≡ true → RunAlike f a b (n + 8)
+run-eight f a b n l m (_, _, h) e = (l, m, each)
   where
-    each : (k : ℕ) → k < n + 8 → eqb (fold (get_or a k 0)) (fold (get_or b k 0)) ≡ true
+    each : (k : ℕ) → k < n + 8 → eqb (f (get_or a k 0)) (f (get_or b k 0)) ≡ true
     each k s =
         by_cases (ltb k n)
         (λ q. h k (ltb-true k n q))
         (λ q. let g = ltb-false k n q in
         let z : n + (k - n) ≡ k = omega arith in
-        rw z at (alike-each a n b n fold 7 (k - n) (omega arith) e))
+        rw z at (alike-each a n b n f 7 (k - n) (omega arith) e))

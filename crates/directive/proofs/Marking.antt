@@ -226,7 +226,7 @@ module _ (name t : List ℕ) (old now : List Bool) (solid : compact t ≡ t) whe
       (marked-letter name t old now (j + k) (drop (i + k) name) g (get_or name (i + k) 0) (drop (i + k + 1) name) (next name (i + k) (omega arith)) s (omega arith) e)
 
   -- the same of what is left of the name and of the letters
-  pub marked-run : (i j k : ℕ) → i < length name → RunAlike (drop i name) (drop j t) k → Marked name t old now j (drop i name) → Marked name t old now (j + k) (drop (i + k) name)
+  pub marked-run : (i j k : ℕ) → i < length name → RunAlike fold (drop i name) (drop j t) k → Marked name t old now j (drop i name) → Marked name t old now (j + k) (drop (i + k) name)
   marked-run i j k b (l, m, f) h =
       let p = length-drop i name in
       let q = length-drop j t in

@@ -1,8 +1,8 @@
--- Laws of how many bytes two texts begin with alike, case ignored: more of them, and what it tells of a name without its blanks and a beginning of letters.
+-- Laws of how many bytes two texts begin with alike: more of them, and what it tells of a name without its blanks and a beginning of letters, if both are folded.
 -- By places, and by structure. Assumes nothing.
 use mathlib.Core.Path.{◌≡◌, refl, sym, ◌∙◌}
 use mathlib.Core.Bool.{Bool, true, false, cond, ◌&&◌, ◌||◌}
-use mathlib.Core.List.{List, [], ◌∷◌}
+use mathlib.Core.List.{List, [], ◌∷◌, map}
 use Prim.Native.Nat.{ℕ, zero, suc, ◌+◌, ◌-◌, ◌<◌, ◌≤◌}
 use native.Mathlib.Omega.{arith}
 use lib.ListN.{length, take, drop, get_or, length-drop, length-take}
@@ -21,26 +21,26 @@ use Rattle.directive.proofs.Eights.{and-assoc}
 use Rattle.directive.proofs.Marking.{head-letters}
 
 -- one byte more, and so many that follow
-pub alike-more : (a b : List ℕ) (n : ℕ) → RunAlike a b n → n < length a → n < length b → eqb (fold (get_or a n 0)) (fold (get_or b n 0)) ≡ true → RunAlike a b (n + 1)
-alike-more a b n (_, _, f) l m e = (omega arith, omega arith, each)
+pub alike-more : (f : ℕ → ℕ) (a b : List ℕ) (n : ℕ) → RunAlike f a b n → n < length a → n < length b → eqb (f (get_or a n 0)) (f (get_or b n 0)) ≡ true → RunAlike f a b (n + 1)
+alike-more f a b n (_, _, h) l m e = (omega arith, omega arith, each)
   where
-    each : (k : ℕ) → k < n + 1 → eqb (fold (get_or a k 0)) (fold (get_or b k 0)) ≡ true
+    each : (k : ℕ) → k < n + 1 → eqb (f (get_or a k 0)) (f (get_or b k 0)) ≡ true
     each k s =
         by_cases (ltb k n)
-        (λ q. f k (ltb-true k n q))
+        (λ q. h k (ltb-true k n q))
         (λ q. let g = ltb-false k n q in let z : k ≡ n = omega arith in rw z e)
 
-pub alike-run : (a b : List ℕ) (n k : ℕ) → RunAlike a b n → RunAlike (drop n a) (drop n b) k → RunAlike a b (n + k)
-alike-run a b n k (l, m, f) (p, q, g) =
+pub alike-run : (f : ℕ → ℕ) (a b : List ℕ) (n k : ℕ) → RunAlike f a b n → RunAlike f (drop n a) (drop n b) k → RunAlike f a b (n + k)
+alike-run f a b n k (l, m, h) (p, q, g) =
     let x = length-drop n a in
     let y = length-drop n b in
     (omega arith, omega arith, each)
   where
-    each : (i : ℕ) → i < n + k → eqb (fold (get_or a i 0)) (fold (get_or b i 0)) ≡ true
+    each : (i : ℕ) → i < n + k → eqb (f (get_or a i 0)) (f (get_or b i 0)) ≡ true
     each i s =
         by_cases (ltb i n)
-        (λ u. f i (ltb-true i n u))
-        (λ u. let h = ltb-false i n u in
+        (λ u. h i (ltb-true i n u))
+        (λ u. let v = ltb-false i n u in
         let z : n + (i - n) ≡ i = omega arith in
         rw (get_or-drop n a (i - n) 0, get_or-drop n b (i - n) 0, z) at (g (i - n) (omega arith)))
 
@@ -84,7 +84,7 @@ same-begun (x ∷ xs) (y ∷ ys) = rw (same-begun xs ys, eqb-suc-suc) (sym (and-
 agreed-next : (x y : ℕ) (xs ys : List ℕ) (r : ℕ) → Agreed (x ∷ xs) (y ∷ ys) (suc r) → Agreed xs ys r
 agreed-next x y xs ys r ((l, m, f), g) = ((omega arith, omega arith, λ k s. f (suc k) (omega arith)), λ p q. g (omega arith) (omega arith))
 
-begun-run : (n : ℕ) (a t : List ℕ) (run : ℕ) → Agreed a t run → n ≤ length t → begun (take n t) a ≡ leb n run
+begun-run : (n : ℕ) (a t : List ℕ) (run : ℕ) → Agreed (map fold a) (map fold t) run → n ≤ length t → begun (take n t) a ≡ leb n run
 unfolding begun
 begun-run zero a t run g l = rw (le-leb 0 run (omega arith))
 begun-run (suc n) a [] run g l = absurd (omega arith)
@@ -92,10 +92,10 @@ begun-run (suc n) [] (y ∷ ys) run g l = rw (lt-leb (suc n) run (omega (arith, 
 begun-run (suc n) (x ∷ xs) (y ∷ ys) zero g l = let e : eqb (fold x) (fold y) ≡ false = g.1 (omega arith) (omega arith) in rw (e, lt-leb (suc n) 0 (omega arith))
 begun-run (suc n) (x ∷ xs) (y ∷ ys) (suc r) g l =
     let e : eqb (fold x) (fold y) ≡ true = g.0.2 0 (omega arith) in
-    rw (e, begun-run n xs ys r (agreed-next x y xs ys r g) (omega arith), leb-suc-suc)
+    rw (e, begun-run n xs ys r (agreed-next (fold x) (fold y) (map fold xs) (map fold ys) r g) (omega arith), leb-suc-suc)
 
 -- what that tells of a name and a candidate that has just the first n of some letters
-module _ (name t : List ℕ) (run : ℕ) (g : Agreed (compact name) t run) (c : List ℕ) (n : ℕ) (l : n ≤ length t) (q : compact c ≡ take n t) where
+module _ (name t : List ℕ) (run : ℕ) (g : Agreed (map fold (compact name)) (map fold t) run) (c : List ℕ) (n : ℕ) (l : n ≤ length t) (q : compact c ≡ take n t) where
   size : length (take n t) ≡ n
   size = simp length-take (omega arith)
 

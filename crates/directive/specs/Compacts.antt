@@ -1,7 +1,7 @@
 -- The names of a book without their blanks, as they are made once for many lines.
 use Rattle.std.specs.Prelude.{ℕ, zero, suc, ◌/◌, ◌%◌, ◌^◌, ◌≤◌, ◌<◌, ◌≡◌, Bool, false, cond, ◌&&◌, ◌||◌, List, [], ◌∷◌, map, length, take, get_or, eqb, ltb, Option, Some, None, Result, Ok, Err}
 use denote.Struct.Props as logic
-use Rattle.ascii.specs.Ascii.{is_space, fold}
+use Rattle.ascii.specs.Ascii.{is_space, fold, exactly}
 use Rattle.refusal.specs.declared.Refusal.{Refusal}
 use Rattle.rulebook.specs.Book.{Book, book_of}
 use Rattle.rulebook.specs.declared.CheckedBook.{CheckedBook}
@@ -10,9 +10,9 @@ use Rattle.directive.specs.declared.compacts.CompactNames.{CompactNames}
 use Rattle.directive.specs.Name.{compact}
 use Rattle.directive.specs.Steps.{RunAlike}
 
--- two texts begin with so many bytes alike, with case ignored, and no more
+-- two texts begin with so many bytes that are the same, and no more
 abbrev pub Agreed : List ℕ → List ℕ → ℕ → Type 0
-Agreed a b run = RunAlike a b run × (run < length a → run < length b → eqb (fold (get_or a run 0)) (fold (get_or b run 0)) ≡ false)
+Agreed a b run = RunAlike exactly a b run × (run < length a → run < length b → eqb (get_or a run 0) (get_or b run 0) ≡ false)
 
 -- whether a blank stands behind the first n letters of a name
 unfoldable pub blank_behind : List ℕ → ℕ → Bool
@@ -32,13 +32,13 @@ no_name = record { letters = []; len = 0; shared = 0; blanks = 0 }
 pub record Alone (name : List ℕ) (c : CompactName) : Type 0 where
   pub long : length c.letters ≡ 64
   pub fits : c.len ≤ 64
-  pub letters : take c.len c.letters ≡ compact name
+  pub letters : take c.len c.letters ≡ map fold (compact name)
   pub blanks : (n : ℕ) → has_bit c.blanks n ≡ blank_behind name n
 
 -- a name without its blanks, and how it begins as the one before it
 pub record Compacted (before name : List ℕ) (c : CompactName) : Type 0 where
   pub alone : Alone name c
-  pub shared : Agreed (compact name) (compact before) c.shared
+  pub shared : Agreed (map fold (compact name)) (map fold (compact before)) c.shared
 
 -- those of a book; before the first stands none
 abbrev pub Compacts : Book → CompactNames → Type 0

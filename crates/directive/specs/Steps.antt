@@ -2,7 +2,6 @@
 use Rattle.std.specs.Prelude.{ℕ, zero, suc, ◌+◌, ◌≤◌, ◌<◌, ◌≡◌, Bool, true, false, cond, ◌&&◌, ◌||◌, List, [], ◌∷◌, ◌++◌, map, length, take, drop, get_or, eqb, leb}
 use Rattle.std.specs.List.{list_any}
 use Rattle.std.specs.Prelude.{Option, Some, None, Result, Ok, Err}
-use Rattle.ascii.specs.Ascii.{fold}
 use Rattle.ascii.specs.Text.{same_by, comparing}
 use Rattle.refusal.specs.declared.Refusal.{Refusal}
 use Rattle.lexer.specs.Trivia.{skip}
@@ -23,9 +22,9 @@ abbrev pub alike_to : (ℕ → ℕ) → List ℕ → ℕ → List ℕ → ℕ �
 alike_to f a i b j zero = eqb (f (get_or a i 0)) (f (get_or b j 0))
 alike_to f a i b j (suc n) = alike_to f a i b j n && eqb (f (get_or a (i + suc n) 0)) (f (get_or b (j + suc n) 0))
 
--- two texts begin with so many bytes alike, with case ignored
-abbrev pub RunAlike : List ℕ → List ℕ → ℕ → Type 0
-RunAlike a b run = (run ≤ length a) × (run ≤ length b) × ((m : ℕ) → m < run → eqb (fold (get_or a m 0)) (fold (get_or b m 0)) ≡ true)
+-- two texts begin with so many bytes that are equal once each is passed through f
+abbrev pub RunAlike : (ℕ → ℕ) → List ℕ → List ℕ → ℕ → Type 0
+RunAlike f a b run = (run ≤ length a) × (run ≤ length b) × ((m : ℕ) → m < run → eqb (f (get_or a m 0)) (f (get_or b m 0)) ≡ true)
 
 -- of names in order, so many were passed that have not a property, and the answer is whether one that is left has it
 abbrev pub Sought : (List ℕ → Bool) → List (List ℕ) → List (List ℕ) → Bool → Type 0

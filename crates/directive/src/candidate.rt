@@ -1,9 +1,10 @@
 // The candidate: the words of a name so far, with one blank between them.
-ghost use Rattle.std.specs.Prelude.{◌≡◌, List, [], ◌++◌, ◌≤◌, ℕ, true, length, take, is_err};
+ghost use Rattle.std.specs.Prelude.{◌≡◌, List, [], ◌++◌, ◌≤◌, ℕ, true, length, take, map, is_err};
+ghost use Rattle.ascii.specs.Ascii.{fold as folded};
 ghost use Rattle.directive.specs.Name.{compact, extended};
 ghost use Rattle.directive.specs.Steps.{fitting, kept_if};
 
-use ascii::class::is_space;
+use ascii::class::{fold, is_space};
 use std::marker::Model;
 
 // The most bytes that a candidate has. A longer one is no name and begins none: a name has at most 64, and at least every second byte of a candidate is of a
@@ -84,5 +85,20 @@ impl Candidate {
             len += 1;
         }
         Candidate { bytes, len }
+    }
+
+    // Letters with their case folded.
+    pub fn folded(letters: &[u8]) -> Candidate
+        requires { length letters.now ≤ 128 }
+        ensures { result ≡ map folded letters.now }
+    {
+        let mut bytes = [0; ROOM];
+        for i in 0..letters.len() {
+            bytes[i] = fold(letters[i]);
+        }
+        Candidate {
+            bytes,
+            len: letters.len(),
+        }
     }
 }

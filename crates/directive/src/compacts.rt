@@ -1,12 +1,13 @@
 // The names of a book without their blanks, made once for many lines, and all of them held against the letters of one line.
 ghost use Rattle.std.specs.Prelude.{◌≡◌, ◌≤◌, ◌||◌, ◌&&◌, ℕ, List, [], length, take, get_or, leb, false};
+ghost use Rattle.ascii.specs.Ascii.{exactly};
 ghost use Rattle.rulebook.specs.Book.{book_of};
 ghost use Rattle.directive.specs.Steps.{RunAlike, Counted};
 ghost use Rattle.directive.specs.Compacts.{Compacts, IfChecked, Agreed, Alone, has_bit};
 
+use crate::candidate::Candidate;
 use crate::foreseen::{PLACES, Places, Tally, run_alike};
-use ascii::class::is_space;
-use ascii::same_byte;
+use ascii::class::{fold, is_space};
 use refusal::Refusal;
 use rulebook::CheckedBook;
 
@@ -19,26 +20,26 @@ const MOST: usize = 255;
 // A name without its blanks.
 #[derive(Clone, Copy)]
 pub struct CompactName {
-    // as they stand in the name, and what is behind them is not read
+    // with their case folded, and what is behind them is not read
     pub letters: [u8; LONGEST],
     pub len: usize,
-    // how many of its letters are those of the name before it, case ignored
+    // how many of its letters are those of the name before it
     pub shared: usize,
     // bit n is 1 if a blank stands behind the first n letters
     pub blanks: u64,
 }
 
-// How many bytes two texts begin with alike, case ignored, if these many are known to be. Mostly the next one differs; where it does not, eight are asked at once.
+// How many bytes two texts begin with alike, if these many are known to be. Mostly the next one differs; where it does not, eight are asked at once.
 fn agreed(a: &[u8], b: &[u8], known: usize) -> usize
     requires { (known ≤ length a.now) × (known ≤ length b.now) }
-    ensures { RunAlike a.now b.now known → Agreed a.now b.now result }
+    ensures { RunAlike exactly a.now b.now known → Agreed a.now b.now result }
 {
     let most = a.len().min(b.len());
-    if known == most || !same_byte(a[known], b[known], true) {
+    if known == most || a[known] != b[known] {
         return known;
     }
-    let mut run = known + run_alike(&a[known..], &b[known..]);
-    while run < most && same_byte(a[run], b[run], true) {
+    let mut run = known + run_alike(&a[known..], &b[known..], false);
+    while run < most && a[run] == b[run] {
         run += 1;
     }
     run
@@ -85,7 +86,7 @@ impl CompactName {
                 blanks |= u64::from(*x == b' ') << len;
                 continue;
             }
-            letters[len] = *x;
+            letters[len] = fold(*x);
             len += 1;
         }
         CompactName {
@@ -158,13 +159,16 @@ impl CompactNames {
         requires made { Compacts (book_of book.now.bytes.now) self.now }
         ensures { Counted (book_of book.now.bytes.now) letters.now result.heads result.ends }
     {
+        // Both sides are folded before, so that bytes are compared as they are.
+        let folded = Candidate::folded(letters);
+        let known = folded.as_slice();
         let mut heads = [false; PLACES];
         let mut ends = [Tally::Zero; PLACES];
         let mut run = 0;
         let mut blanks = 0;
         for number in 0..book.header.directives.count {
             let name = &self.names[number];
-            run = name.run_behind(run, letters);
+            run = name.run_behind(run, known);
             blanks = blanks | bits_to(name.blanks, run);
             if run == name.len {
                 heads[run] = true;

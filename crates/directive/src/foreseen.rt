@@ -1,6 +1,7 @@
 // The names of a book without their blanks, held once for a line against a candidate and all that may follow it.
 ghost use Rattle.std.specs.Prelude.{◌≡◌, ◌+◌, ◌≤◌, true, false, length, get_or};
 ghost use Rattle.std.specs.Option.{option_copied};
+ghost use Rattle.ascii.specs.Text.{comparing};
 ghost use Rattle.rulebook.specs.Book.{book_of};
 ghost use Rattle.directive.specs.Name.{compact};
 ghost use Rattle.directive.specs.Steps.{Counted, RunAlike, one_more, only_one, Extended, HeadsMarked, EndTold};
@@ -80,14 +81,16 @@ fn gather(text: &[u8], end: usize, ignores_case: bool, letters: &mut Candidate)
     }
 }
 
-// How many bytes, by eights, a name and letters begin with alike, with case ignored.
-pub(crate) fn run_alike(name: &[u8], letters: &[u8]) -> usize
-    ensures { RunAlike name.now letters.now result }
+// How many bytes, by eights, a name and letters begin with alike, with case ignored or not.
+pub(crate) fn run_alike(name: &[u8], letters: &[u8], ignore_case: bool) -> usize
+    ensures { RunAlike (comparing ignore_case) name.now letters.now result }
 {
     let most = name.len().min(letters.len());
     let mut run = 0;
     while run + 8 <= most {
-        if !eight_same(name, run, letters, run) && !eight_folded(name, run, letters, run) {
+        if !(eight_same(name, run, letters, run)
+            || (ignore_case && eight_folded(name, run, letters, run)))
+        {
             return run;
         }
         run += 8;
@@ -107,7 +110,7 @@ fn mark(name: &[u8], letters: &[u8], heads: &mut [bool; PLACES]) -> Option<usize
     while at < name.len() {
         // The first byte tells most names apart. Behind it as many are passed as can be, which is tried now and then: a name may have blanks all along.
         if at % 16 == 1 {
-            let run = run_alike(&name[at..], &letters[place..]);
+            let run = run_alike(&name[at..], &letters[place..], true);
             if run != 0 {
                 at += run;
                 place += run;

@@ -1,9 +1,10 @@
--- `of` meets its contract: a letter is kept, a blank is marked.
-use Rattle.std.proofs.Common.{◌≡◌, ◌++◌, ◌+◌, ◌<◌, [], ◌||◌, ◌&&◌, ℕ, Bool, List, take, drop, length, get_or, refl, sym, ap, ◌∙◌, arith, append_assoc, append-nil}
+-- `of` meets its contract: a letter is kept folded, a blank is marked.
+use Rattle.std.proofs.Common.{◌≡◌, ◌++◌, ◌+◌, ◌<◌, [], ◌||◌, ◌&&◌, ℕ, Bool, List, map, take, drop, length, get_or, refl, sym, ap, ◌∙◌, arith, append_assoc, append-nil}
 use mathlib.Core.Bool.{or-false}
 use lib.Dec.{eqb}
 use lib.ListN.{drop_of_length-le, length-set}
 use Rattle.std.proofs.lemmas.List.{take_more_set}
+use Rattle.ascii.specs.Ascii.{fold}
 use Rattle.directive.specs.Name.{compact}
 use Rattle.directive.specs.Compacts.{has_bit}
 use Rattle.directive.proofs.Marking.{next, or-assoc}
@@ -31,7 +32,7 @@ loop-x-preserved-then-is_space c =
     record {
       within = omega (arith, i.within);
       long = i.long;
-      alike = ap (λ (r : List ℕ). take l.len l.letters ++ r) (compact-blank xs l.x-index c.loop-x-test.true s) ∙ i.alike;
+      alike = ap (λ (r : List ℕ). take l.len l.letters ++ map fold r) (compact-blank xs l.x-index c.loop-x-test.true s) ∙ i.alike;
       blanks = λ n.
           rw (c.from.ensures, bits-one l.blanks (eqb x 32) l.len n (omega (arith, c.requires, i.within, c.loop-x-test.true)))
           (or-assoc (has_bit l.blanks n) (eqb x 32 && eqb n l.len) (blank_from l.len (drop (l.x-index + 1) xs) n)
@@ -55,10 +56,10 @@ loop-x-preserved c =
     let m : l.len < length l.letters = omega (arith, c.requires, i.within, i.long, c.loop-x-test.true) in
     record {
       within = omega (arith, i.within);
-      long = length-set l.letters l.len x ∙ i.long;
+      long = length-set l.letters l.len c.fold.result ∙ i.long;
       alike =
-          rw (take_more_set l.letters l.len x m, append_assoc)
-          (ap (λ (r : List ℕ). take l.len l.letters ++ r) (compact-letter xs l.x-index c.loop-x-test.true s) ∙ i.alike);
+          rw (take_more_set l.letters l.len c.fold.result m, append_assoc, c.fold.ensures)
+          (ap (λ (r : List ℕ). take l.len l.letters ++ map fold r) (compact-letter xs l.x-index c.loop-x-test.true s) ∙ i.alike);
       blanks = λ n.
           ap (λ (b : Bool). has_bit l.blanks n || b) (sym (rw (next xs l.x-index c.loop-x-test.true) (from-letter l.len n x (drop (l.x-index + 1) xs) s)))
           ∙ i.blanks n;

@@ -1,6 +1,7 @@
 -- `of` meets its contract: each name is made from its letters and those of the one before.
-use Rattle.std.proofs.Common.{◌≡◌, ◌≤◌, [], ◌∷◌, length, get_or, refl, sym, ap, ◌∙◌, arith}
+use Rattle.std.proofs.Common.{◌≡◌, ◌≤◌, [], ◌∷◌, map, length, get_or, refl, sym, ap, ◌∙◌, arith}
 use lib.ListN.{length-set, length-drop}
+use Rattle.ascii.specs.Ascii.{fold}
 use Rattle.rulebook.specs.Book.{book_of}
 use Rattle.directive.specs.Name.{compact}
 use Rattle.directive.specs.Compacts.{Agreed}
@@ -48,7 +49,7 @@ loop-name-preserved c =
     let name = c.in-Some.name.now in
     let e = i.rest ∙ (c.in-Some.ensures).steps in
     let a = alone-sharing name c.of-next.result c.agreed.result c.of-next.ensures in
-    let s : Agreed (compact name) (compact (get_or ([] ∷ ns) l.number [])) c.agreed.result =
+    let s : Agreed (map fold (compact name)) (map fold (compact (get_or ([] ∷ ns) l.number []))) c.agreed.result =
     rw (c.as_slice.ensures, c.as_slice-in-loop-name.ensures, c.of-next.ensures.letters, i.before.letters) at c.agreed.ensures (omega arith, omega arith, λ m q. absurd (omega arith)) in
     let n = ap length (c.in-Some.ensures).steps in
     record {

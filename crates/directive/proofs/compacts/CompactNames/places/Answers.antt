@@ -1,7 +1,8 @@
 -- `places` meets its contract: each name is counted by how far the letters agree with it.
-use Rattle.std.proofs.Common.{◌≡◌, ◌<◌, ◌+◌, ℕ, List, [], ◌∷◌, length, take, drop, get_or, true, false, refl, ap, ◌∙◌, arith}
+use Rattle.std.proofs.Common.{◌≡◌, ◌<◌, ◌+◌, ℕ, List, [], ◌∷◌, length, map, take, drop, get_or, true, false, refl, ap, ◌∙◌, arith}
 use lib.ListN.{replicate, length-set, drop_of_length-le}
 use Rattle.std.proofs.lemmas.List.{get_or-replicate}
+use Rattle.ascii.specs.Ascii.{fold}
 use Rattle.rulebook.specs.Book.{book_of}
 use Rattle.rulebook.specs.declared.Header.{Header}
 use Rattle.directive.specs.declared.foreseen.Tally.TheVariants.{Zero}
@@ -36,7 +37,8 @@ module _ (b : CheckedBook) (cs : CompactNames) (made : Compacts (book_of b.bytes
   run-is : (i : ℕ) (t : List ℕ) (run result : ℕ) → i < b.header.directives.count
       → ((x : List ℕ) → Agreed (take (get_or cs.names i no_name).len (get_or cs.names i no_name).letters) x (get_or cs.names i no_name).shared → Agreed x t run
       → Agreed (take (get_or cs.names i no_name).len (get_or cs.names i no_name).letters) t result)
-      → Agreed (compact (get_or ([] ∷ names_of (book_of b.bytes.now).directives) i [])) t run → Agreed (compact (get_or (names_of (book_of b.bytes.now).directives) i [])) t result
+      → Agreed (map fold (compact (get_or ([] ∷ names_of (book_of b.bytes.now).directives) i []))) t run
+      → Agreed (map fold (compact (get_or (names_of (book_of b.bytes.now).directives) i []))) t result
   run-is i t run result l f g = run-here (book_of b.bytes.now) cs made i (within l) t run result f g
 
 pub run_behind-run-requires : goal.run_behind-run-requires
@@ -46,19 +48,19 @@ run_behind-run-requires c =
     (f.0, f.1, c.loop-number.invariant.agreed.0.1)
 
 pub bounds-heads-run : goal.bounds-heads-run
-bounds-heads-run c = omega (arith, c.requires.fits, (run-is c.args.book.now c.args.self.now c.requires.made c.loop-number.number c.args.letters.now c.loop-number.run c.run_behind-run.result c.loop-number-test.true c.run_behind-run.ensures c.loop-number.invariant.agreed).0.1)
+bounds-heads-run c = omega (arith, c.as_slice-known.ensures.fits, ap length c.as_slice-known.ensures.value, (run-is c.args.book.now c.args.self.now c.requires.made c.loop-number.number c.as_slice-known.result.now c.loop-number.run c.run_behind-run.result c.loop-number-test.true c.run_behind-run.ensures c.loop-number.invariant.agreed).0.1)
 
 pub offset_bounds-ends-run : goal.offset_bounds-ends-run
-offset_bounds-ends-run c = omega (arith, c.requires.fits, (run-is c.args.book.now c.args.self.now c.requires.made c.loop-number.number c.args.letters.now c.loop-number.run c.run_behind-run.result c.loop-number-test.true c.run_behind-run.ensures c.loop-number.invariant.agreed).0.1)
+offset_bounds-ends-run c = omega (arith, c.as_slice-known.ensures.fits, ap length c.as_slice-known.ensures.value, (run-is c.args.book.now c.args.self.now c.requires.made c.loop-number.number c.as_slice-known.result.now c.loop-number.run c.run_behind-run.result c.loop-number-test.true c.run_behind-run.ensures c.loop-number.invariant.agreed).0.1)
 
 pub bounds-ends-run : goal.bounds-ends-run
-bounds-ends-run c = omega (arith, c.requires.fits, (run-is c.args.book.now c.args.self.now c.requires.made c.loop-number.number c.args.letters.now c.loop-number.run c.run_behind-run.result c.loop-number-test.true c.run_behind-run.ensures c.loop-number.invariant.agreed).0.1)
+bounds-ends-run c = omega (arith, c.as_slice-known.ensures.fits, ap length c.as_slice-known.ensures.value, (run-is c.args.book.now c.args.self.now c.requires.made c.loop-number.number c.as_slice-known.result.now c.loop-number.run c.run_behind-run.result c.loop-number-test.true c.run_behind-run.ensures c.loop-number.invariant.agreed).0.1)
 
 pub offset_bounds-ends-run-then-run-name : goal.offset_bounds-ends-run-then-run-name
-offset_bounds-ends-run-then-run-name c = omega (arith, c.requires.fits, (run-is c.args.book.now c.args.self.now c.requires.made c.loop-number.number c.args.letters.now c.loop-number.run c.run_behind-run.result c.loop-number-test.true c.run_behind-run.ensures c.loop-number.invariant.agreed).0.1)
+offset_bounds-ends-run-then-run-name c = omega (arith, c.as_slice-known.ensures.fits, ap length c.as_slice-known.ensures.value, (run-is c.args.book.now c.args.self.now c.requires.made c.loop-number.number c.as_slice-known.result.now c.loop-number.run c.run_behind-run.result c.loop-number-test.true c.run_behind-run.ensures c.loop-number.invariant.agreed).0.1)
 
 pub bounds-ends-run-then-run-name : goal.bounds-ends-run-then-run-name
-bounds-ends-run-then-run-name c = omega (arith, c.requires.fits, (run-is c.args.book.now c.args.self.now c.requires.made c.loop-number.number c.args.letters.now c.loop-number.run c.run_behind-run.result c.loop-number-test.true c.run_behind-run.ensures c.loop-number.invariant.agreed).0.1)
+bounds-ends-run-then-run-name c = omega (arith, c.as_slice-known.ensures.fits, ap length c.as_slice-known.ensures.value, (run-is c.args.book.now c.args.self.now c.requires.made c.loop-number.number c.as_slice-known.result.now c.loop-number.run c.run_behind-run.result c.loop-number-test.true c.run_behind-run.ensures c.loop-number.invariant.agreed).0.1)
 
 pub loop-number-preserved : goal.loop-number-preserved
 loop-number-preserved c =
@@ -70,11 +72,13 @@ loop-number-preserved c =
     let cs = c.args.self.now in
     let ns = names_of book.directives in
     let m = within c.args.book.now cs c.requires.made c.loop-number-test.true in
-    let g = run-is c.args.book.now cs c.requires.made l.number t l.run r c.loop-number-test.true c.run_behind-run.ensures i.agreed in
+    let known = c.as_slice-known.result.now in
+    let g = run-is c.args.book.now cs c.requires.made l.number known l.run r c.loop-number-test.true c.run_behind-run.ensures i.agreed in
+    let folded : Agreed (map fold (compact (get_or ns l.number []))) (map fold t) r = rw (c.as_slice-known.ensures.value, c.folded-folded.ensures) at g in
     let e = left-here book cs c.requires.made l.number m in
     let so = rw e at i.counting in
     let a = (c.requires.made l.number m).alone in
-    let next : Agreed (compact (get_or ([] ∷ ns) (l.number + 1) [])) t r = rw (name-behind ns l.number (get_or ns l.number []) (drop (l.number + 1) ns) e) g in
+    let next : Agreed (map fold (compact (get_or ([] ∷ ns) (l.number + 1) []))) known r = rw (name-behind ns l.number (get_or ns l.number []) (drop (l.number + 1) ns) e) g in
     let f = c.requires.fits in
     elim c.if-run-name.branch [
       | then-run-name w ↦ record {
@@ -82,7 +86,7 @@ loop-number-preserved c =
         long = rw w.ends-is (length-set l.ends r w.and.result ∙ i.long);
         agreed = next;
         counting = rw (w.heads-is, w.ends-is, w.and.ensures)
-            (counting-end t (get_or ns l.number []) ns (drop (l.number + 1) ns) l.number l.heads l.blanks l.ends so _ a r c.bits_to-blanks.result g c.bits_to-blanks.ensures
+            (counting-end t (get_or ns l.number []) ns (drop (l.number + 1) ns) l.number l.heads l.blanks l.ends so _ a r c.bits_to-blanks.result folded c.bits_to-blanks.ensures
             (omega (arith, i.long, f)) (omega (arith, i.room, f)) w.if-run-name.true);
       }
       | else-run-name w ↦ record {
@@ -90,7 +94,7 @@ loop-number-preserved c =
         long = rw w.ends-is i.long;
         agreed = next;
         counting = rw (w.heads-is, w.ends-is)
-            (counting-past t (get_or ns l.number []) ns (drop (l.number + 1) ns) l.number l.heads l.blanks l.ends so _ a r c.bits_to-blanks.result g c.bits_to-blanks.ensures
+            (counting-past t (get_or ns l.number []) ns (drop (l.number + 1) ns) l.number l.heads l.blanks l.ends so _ a r c.bits_to-blanks.result folded c.bits_to-blanks.ensures
             (omega (arith, i.long, f)) (omega (arith, i.room, f)) w.if-run-name.false);
       }
     ]

@@ -1,5 +1,6 @@
 -- The names before the one at hand are counted, and how far the letters agree with the last of them is known.
-use Rattle.std.proofs.Common.{◌≡◌, [], ◌∷◌, length, drop, get_or}
+use Rattle.std.proofs.Common.{◌≡◌, [], ◌∷◌, length, map, drop, get_or}
+use Rattle.ascii.specs.Ascii.{fold}
 use Rattle.rulebook.specs.Book.{book_of}
 use Rattle.directive.specs.Name.{compact}
 use Rattle.directive.specs.Compacts.{Agreed}
@@ -13,6 +14,6 @@ invariant-loop-number l =
     record {
       room : length l.heads ≡ 129;
       long : length l.ends ≡ 129;
-      agreed : Agreed (compact (get_or ([] ∷ names) l.number [])) l.letters l.run;
+      agreed : Agreed (map fold (compact (get_or ([] ∷ names) l.number []))) l.known l.run;
       counting : Counting l.letters names (drop l.number names) l.number (marked_too l.heads l.blanks) l.ends;
     }
