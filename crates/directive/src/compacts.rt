@@ -38,7 +38,7 @@ fn agreed(a: &[u8], b: &[u8], known: usize) -> usize
     if known == most || a[known] != b[known] {
         return known;
     }
-    let mut run = known + run_alike(&a[known..], &b[known..], false);
+    let mut run = known + run_alike::<false>(&a[known..], &b[known..]);
     while run < most && a[run] == b[run] {
         run += 1;
     }

@@ -82,14 +82,14 @@ fn gather(text: &[u8], end: usize, ignores_case: bool, letters: &mut Candidate)
 }
 
 // How many bytes, by eights, a name and letters begin with alike, with case ignored or not.
-pub(crate) fn run_alike(name: &[u8], letters: &[u8], ignore_case: bool) -> usize
-    ensures { RunAlike (comparing ignore_case) name.now letters.now result }
+pub(crate) fn run_alike<const IGNORE_CASE: bool>(name: &[u8], letters: &[u8]) -> usize
+    ensures { RunAlike (comparing IGNORE_CASE) name.now letters.now result }
 {
     let most = name.len().min(letters.len());
     let mut run = 0;
     while run + 8 <= most {
         if !(eight_same(name, run, letters, run)
-            || (ignore_case && eight_folded(name, run, letters, run)))
+            || (IGNORE_CASE && eight_folded(name, run, letters, run)))
         {
             return run;
         }
@@ -110,7 +110,7 @@ fn mark(name: &[u8], letters: &[u8], heads: &mut [bool; PLACES]) -> Option<usize
     while at < name.len() {
         // The first byte tells most names apart. Behind it as many are passed as can be, which is tried now and then: a name may have blanks all along.
         if at % 16 == 1 {
-            let run = run_alike(&name[at..], &letters[place..], true);
+            let run = run_alike::<true>(&name[at..], &letters[place..]);
             if run != 0 {
                 at += run;
                 place += run;
