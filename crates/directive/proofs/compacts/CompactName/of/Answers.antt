@@ -56,9 +56,9 @@ loop-x-preserved c =
     let m : l.len < length l.letters = omega (arith, c.requires, i.within, i.long, c.loop-x-test.true) in
     record {
       within = omega (arith, i.within);
-      long = length-set l.letters l.len c.fold.result ∙ i.long;
+      long = length-set l.letters l.len _ ∙ i.long;
       alike =
-          rw (take_more_set l.letters l.len c.fold.result m, append_assoc, c.fold.ensures)
+          rw (take_more_set l.letters l.len _ m, append_assoc, c.fold.ensures)
           (ap (λ (r : List ℕ). take l.len l.letters ++ map fold r) (compact-letter xs l.x-index c.loop-x-test.true s) ∙ i.alike);
       blanks = λ n.
           ap (λ (b : Bool). has_bit l.blanks n || b) (sym (rw (next xs l.x-index c.loop-x-test.true) (from-letter l.len n x (drop (l.x-index + 1) xs) s)))
