@@ -190,6 +190,11 @@ fn in_turn(count: usize) -> Vec<String> {
         .collect()
 }
 
+/// Directive names that begin with one letter and go on in digits.
+fn begun(count: usize) -> Vec<String> {
+    (0..count).map(|number| format!("P{number:08b}")).collect()
+}
+
 /// Directive names of which those that fail are asked first, each as late as it can: `p p p ..` grows up to 32 words, and at each the names that have a
 /// letter in the place of one of its blanks.
 fn words_apart(count: usize) -> Vec<String> {
@@ -519,6 +524,12 @@ fn looked_up() -> Vec<Row> {
         Call::Lines { language: FORTRAN_FREE },
         book(3, 2, &in_turn(NAMES[2]), &["a".to_string()]),
         format!("!$omp {}__", "p".repeat(30)),
+    ));
+    rows.push(many_row(
+        "lines free, one letter of all names",
+        Call::Lines { language: FORTRAN_FREE },
+        book(3, 2, &begun(NAMES[2]), &["a".to_string()]),
+        "!$omp p ".to_string(),
     ));
     rows.push({
         let named = book(0, 2, &words_apart(NAMES[2]), &["a".to_string()]);
