@@ -1,5 +1,5 @@
 // The kinds of brackets with their bytes, and the stack of open ones, which matching and splitting share.
-ghost use Rattle.std.specs.Prelude.{◌≡◌, [], ◌∷◌, drop};
+ghost use Rattle.std.specs.Prelude.{◌≡◌, [], ◌∷◌, drop, OnErr};
 ghost use Rattle.code.specs.Bracket.{opening_of, closing_of, is_opening, is_closing, is_bracket, kind_of, closer, is_empty, top_is, push, close, taken, outcome};
 
 use crate::{Bracket, BracketError, MAX_DEPTH, OpenBrackets};
@@ -104,10 +104,9 @@ impl OpenBrackets {
     pub fn one(b: u8) -> Self
         ensures { result ≡ b ∷ [] }
     {
-        OpenBrackets {
-            closing: [b; MAX_DEPTH],
-            depth: 1,
-        }
+        let mut closing = [0; MAX_DEPTH];
+        closing[0] = b;
+        OpenBrackets { closing, depth: 1 }
     }
 
     pub fn is_empty(&self) -> bool
@@ -125,7 +124,8 @@ impl OpenBrackets {
 
     // One more, which b closes.
     pub fn push(&mut self, b: u8) -> Result<(), BracketError>
-        ensures { outcome result self.new ≡ push b self.old }
+        ensures value { outcome result self.new ≡ push b self.old }
+        ensures kept { OnErr result (self.new ≡ self.old) }
     {
         if MAX_DEPTH <= self.depth {
             return Err(BracketError::Deep);
@@ -135,16 +135,20 @@ impl OpenBrackets {
         Ok(())
     }
 
-    // The innermost less, if there is one.
+    // The innermost less, if there is one. The slot that it leaves is zero again.
     pub fn pop(&mut self)
         ensures { self.new ≡ drop 1 self.old }
     {
-        self.depth = self.depth.saturating_sub(1);
+        if 0 < self.depth {
+            self.depth -= 1;
+            self.closing[self.depth] = 0;
+        }
     }
 
     // The innermost is closed by b.
     pub fn close(&mut self, b: u8) -> Result<(), BracketError>
-        ensures { outcome result self.new ≡ close b self.old }
+        ensures value { outcome result self.new ≡ close b self.old }
+        ensures kept { OnErr result (self.new ≡ self.old) }
     {
         if !self.is_innermost(b) {
             return Err(BracketError::Wrong);
@@ -156,7 +160,8 @@ impl OpenBrackets {
     // What a byte of code does, by the three pairs.
     #[tactic(auto, unfolding(crate::specs::Bracket::taken))]
     pub fn take(&mut self, b: u8) -> Result<(), BracketError>
-        ensures { outcome result self.new ≡ taken self.old b }
+        ensures value { outcome result self.new ≡ taken self.old b }
+        ensures kept { OnErr result (self.new ≡ self.old) }
     {
         if Bracket::opens(b) {
             self.push(Bracket::partner(b))
