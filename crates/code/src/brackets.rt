@@ -122,7 +122,7 @@ impl OpenBrackets {
         0 < self.depth && self.closing[self.depth - 1] == b
     }
 
-    // One more, which b closes.
+    // One more, which b closes; where there is no room, they stay as they were.
     pub fn push(&mut self, b: u8) -> Result<(), BracketError>
         ensures value { outcome result self.new ≡ push b self.old }
         ensures kept { OnErr result (self.new ≡ self.old) }
@@ -145,7 +145,7 @@ impl OpenBrackets {
         }
     }
 
-    // The innermost is closed by b.
+    // The innermost is closed by b; where b closes it not, they stay as they were.
     pub fn close(&mut self, b: u8) -> Result<(), BracketError>
         ensures value { outcome result self.new ≡ close b self.old }
         ensures kept { OnErr result (self.new ≡ self.old) }
@@ -157,7 +157,7 @@ impl OpenBrackets {
         Ok(())
     }
 
-    // What a byte of code does, by the three pairs.
+    // What a byte of code does, by the three pairs; where it is refused, they stay as they were.
     #[tactic(auto, unfolding(crate::specs::Bracket::taken))]
     pub fn take(&mut self, b: u8) -> Result<(), BracketError>
         ensures value { outcome result self.new ≡ taken self.old b }
