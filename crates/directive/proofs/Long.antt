@@ -1,4 +1,4 @@
--- A candidate of more than 128 bytes is no name of a book and begins none: a name has at most 64 bytes, as a valid book has the form, and a candidate
+-- A candidate of more than 128 bytes is no name of a book and begins none: a name has at most 64 bytes, as the form says, and a candidate
 -- has no more blanks than other bytes. So what is said of the candidate that a buffer keeps holds of every candidate. Assumes nothing.
 use mathlib.Core.Path.{◌≡◌, refl, sym, ap, ◌∙◌}
 use mathlib.Core.Bool.{Bool, true, false, cond, ◌&&◌, ◌||◌, true≢false}
@@ -14,10 +14,9 @@ use Rattle.ascii.specs.Ascii.{is_space, is_word, fold}
 use Rattle.ascii.specs.Text.{leading, same_by}
 use Rattle.ascii.proofs.Flags.{by_cases}
 use Rattle.ascii.proofs.Texts.{leading_le}
+use Rattle.bookform.specs.Format.{HasForm}
 use Rattle.bookform.specs.Grammar.{Entries, clauses, directive, IsBook}
 use Rattle.bookform.proofs.Grammars.{form-is-book}
-use Rattle.rulebook.specs.Check.{book_fault}
-use Rattle.rulebook.proofs.Forms.{valid-form}
 use Rattle.rulebook.specs.Book.{Entry, Book, entries_from, header_of, book_of}
 use Rattle.rulebook.specs.Lookup.{comparison, entry_from}
 use Rattle.rulebook.proofs.NameLaws.{same-lengths}
@@ -126,8 +125,8 @@ short-form bs b =
     let f : drop 9 bs ≡ b.entries = ap (λ (l : List ℕ). drop 9 l) b.is in
     rw d (short-entries bs b.d b.c 9 b.entries f b.follow)
 
-pub short-book : (bs : List ℕ) → book_fault bs ≡ None → Short (book_of bs).directives
-short-book bs h = short-form bs ((form-is-book bs).0 (valid-form bs h))
+pub short-book : (bs : List ℕ) → HasForm bs → Short (book_of bs).directives
+short-book bs h = short-form bs ((form-is-book bs).0 h)
 
 -- by a comparison that a name never passes
 module _ (same : List ℕ → List ℕ → Bool) (c : List ℕ) (far : (a : List ℕ) → length a ≤ 64 → same a c ≡ false) where

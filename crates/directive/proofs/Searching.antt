@@ -7,8 +7,8 @@ use Rattle.ascii.specs.Text.{leading}
 use Rattle.ascii.proofs.Texts.{leading_le}
 use Rattle.refusal.specs.declared.Refusal.{Refusal}
 use Rattle.lexer.specs.Trivia.{skip, Inside}
+use Rattle.bookform.specs.Format.{HasForm}
 use Rattle.rulebook.specs.Book.{book_of}
-use Rattle.rulebook.specs.Check.{book_fault}
 use Rattle.directive.specs.declared.Named.{Named}
 use Rattle.directive.specs.Name.{entry_of, latest, extended, name_from}
 use Rattle.directive.specs.declared.candidate.Full.{Full}
@@ -29,7 +29,7 @@ pub record Searched (bs text : List ℕ) (from start place : ℕ) (c : List ℕ)
   pub ready : KeptFor (book_of bs) c o
   pub good : Good start (length text) found
 
-module _ {bs text : List ℕ} {from start place end : ℕ} {c : List ℕ} {o : Outlook} {found : Option Named} (fit : AreBytes bs) (valid : book_fault bs ≡ None) (here : Searched bs text from start place c o found)
+module _ {bs text : List ℕ} {from start place end : ℕ} {c : List ℕ} {o : Outlook} {found : Option Named} (fit : AreBytes bs) (form : HasForm bs) (here : Searched bs text from start place c o found)
     (word : is_word (get_or text place 0) ≡ true) (ends : end ≡ place + leading is_word (drop place text)) where
   abbrev grown : List ℕ
   grown = extended c (take (end - place) (drop place text))
@@ -62,8 +62,8 @@ module _ {bs text : List ℕ} {from start place end : ℕ} {c : List ℕ} {o : O
       → turned (book_of bs) text from grown found (behind (λ p. None) k) ≡ name_from (book_of bs) text from [] None 0 start (drop start text)
   long-end kept r long push k e i =
       let l = fits-none kept grown r long push in
-      sym (long-turn (book_of bs) text from c found place end grown word ends refl (entry-long (book_of bs) grown (short-book bs valid) spaced-on l)
-      (grows-long (book_of bs) grown (short-book bs valid) spaced-on l) k e i) ∙ here.alike
+      sym (long-turn (book_of bs) text from c found place end grown word ends refl (entry-long (book_of bs) grown (short-book bs form) spaced-on l)
+      (grows-long (book_of bs) grown (short-book bs form) spaced-on l) k e i) ∙ here.alike
 
   -- the candidate has a byte, and what is kept is right for it
   module _ (kept : List ℕ) (r : Result (Unit {0}) Full) (fits : is_err r ≡ false) (push : kept_if r kept ≡ fitting grown) where

@@ -9,7 +9,7 @@ use crate::candidate::Candidate;
 use crate::foreseen::{PLACES, Places, Tally, run_alike};
 use ascii::class::{fold, is_space};
 use refusal::Refusal;
-use rulebook::CheckedBook;
+use rulebook::{CheckedBook, DirectiveBook};
 
 // The most bytes of a name.
 const LONGEST: usize = 64;
@@ -127,7 +127,7 @@ pub struct CompactNames {
 }
 
 impl CompactNames {
-    pub fn of(book: &CheckedBook) -> CompactNames
+    pub fn of(book: &DirectiveBook) -> CompactNames
         ensures { Compacts (book_of book.now.bytes.now) result }
     {
         let mut names = [CompactName::none(); MOST];
@@ -148,13 +148,15 @@ impl CompactNames {
         ensures { IfChecked book.now result }
     {
         match book {
-            Ok(book) if book.header.optional_blanks => Some(CompactNames::of(book)),
+            Ok(book) if book.header.optional_blanks => Some(CompactNames::of(
+                &book.directive_book(),
+            )),
             _ => None,
         }
     }
 
     // What they say of letters.
-    pub fn places(&self, book: &CheckedBook, letters: &[u8]) -> Places
+    pub fn places(&self, book: &DirectiveBook, letters: &[u8]) -> Places
         requires fits { length letters.now ≤ 128 }
         requires made { Compacts (book_of book.now.bytes.now) self.now }
         ensures { Counted (book_of book.now.bytes.now) letters.now result.heads result.ends }

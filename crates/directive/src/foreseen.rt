@@ -15,7 +15,7 @@ use ascii::class::is_space;
 use ascii::sets::Word;
 use ascii::{begins_at, run_end, same_byte};
 use lexer::trivia::skip;
-use rulebook::CheckedBook;
+use rulebook::DirectiveBook;
 
 // The places of letters, of which there are as many as a candidate has room for: before each, and behind the last.
 pub(crate) const PLACES: usize = 129;
@@ -133,7 +133,7 @@ fn mark(name: &[u8], letters: &[u8], heads: &mut [bool; PLACES]) -> Option<usize
 }
 
 // What the names of a book say of letters, each asked anew.
-fn places_of(book: &CheckedBook, letters: &[u8]) -> Places
+fn places_of(book: &DirectiveBook, letters: &[u8]) -> Places
     requires fits { length letters.now ≤ 128 }
     requires solid { compact letters.now ≡ letters.now }
     ensures { Counted (book_of book.now.bytes.now) letters.now result.heads result.ends }
@@ -153,7 +153,7 @@ fn places_of(book: &CheckedBook, letters: &[u8]) -> Places
 impl Foreseen {
     // Made for a candidate that ends at a place of a text.
     pub fn of(
-        book: &CheckedBook,
+        book: &DirectiveBook,
         compacts: Option<&CompactNames>,
         text: &[u8],
         end: usize,

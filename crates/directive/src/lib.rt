@@ -26,7 +26,7 @@ use compacts::CompactNames;
 use lexer::trivia::skip;
 use outlook::Outlook;
 use refusal::{Reason, Refusal};
-use rulebook::CheckedBook;
+use rulebook::DirectiveBook;
 
 // The entry of a directive's name, and where the name stands in the text.
 #[derive(Clone, Copy, Debug, PartialEq, Eq)]
@@ -51,7 +51,7 @@ fn starts_word(text: &[u8], at: usize) -> bool
 
 // Where another word of a candidate stands, whose last one ends at a place and which has this entry. Trivia comes first, before anything is decided.
 fn next_word(
-    book: &CheckedBook,
+    book: &DirectiveBook,
     text: &[u8],
     end: usize,
     candidate: &[u8],
@@ -78,7 +78,7 @@ fn next_word(
 // The last candidate that is a name, of those whose first word stands at a place, by a search that began at another: word by word, while the candidate may
 // grow. The place jumps by words, so the loop is no `for`.
 fn search(
-    book: &CheckedBook,
+    book: &DirectiveBook,
     compacts: Option<&CompactNames>,
     text: &[u8],
     from: usize,
@@ -117,7 +117,7 @@ fn search(
 
 // The directive's name from a place of a text on, behind trivia.
 pub fn lex_name(
-    book: &CheckedBook,
+    book: &DirectiveBook,
     compacts: Option<&CompactNames>,
     text: &[u8],
     at: usize,

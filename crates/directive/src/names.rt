@@ -7,7 +7,7 @@ ghost use Rattle.directive.specs.Steps.{Sought};
 
 use crate::alike::alike;
 use ascii::byte_at;
-use rulebook::CheckedBook;
+use rulebook::DirectiveBook;
 use rulebook::names::Names;
 use std::marker::Model;
 
@@ -45,7 +45,7 @@ impl<'a> Model for NamesLeft<'a> {
 
 impl<'a> NamesLeft<'a> {
     // All names of a book, behind an empty one.
-    pub fn new(book: &CheckedBook<'a>) -> NamesLeft<'a>
+    pub fn new(book: &DirectiveBook<'a>) -> NamesLeft<'a>
         ensures { result ≡ [] ∷ map (λ e. e.name) (book_of book.now.bytes.now).directives }
     {
         NamesLeft {

@@ -11,7 +11,7 @@ use crate::candidate::Candidate;
 use crate::compacts::CompactNames;
 use crate::foreseen::Foreseen;
 use crate::names::NamesLeft;
-use rulebook::CheckedBook;
+use rulebook::DirectiveBook;
 
 // The most bytes of a name.
 const LONGEST: usize = 64;
@@ -25,7 +25,7 @@ pub struct Outlook<'a> {
 }
 
 // The entry of a candidate that is a name as it stands.
-fn plain_entry(book: &CheckedBook, candidate: &[u8]) -> Option<usize>
+fn plain_entry(book: &DirectiveBook, candidate: &[u8]) -> Option<usize>
     ensures { result ≡ entry_from (comparison (book_of book.now.bytes.now)) 0 candidate.now (book_of book.now.bytes.now).directives }
 {
     if LONGEST < candidate.len() {
@@ -35,7 +35,7 @@ fn plain_entry(book: &CheckedBook, candidate: &[u8]) -> Option<usize>
 }
 
 impl<'a> Outlook<'a> {
-    pub fn new(book: &CheckedBook<'a>) -> Outlook<'a>
+    pub fn new(book: &DirectiveBook<'a>) -> Outlook<'a>
         ensures { KeptFor (book_of book.now.bytes.now) [] result }
     {
         Outlook {
@@ -62,7 +62,7 @@ impl<'a> Outlook<'a> {
     // without them.
     pub fn entry_of(
         &mut self,
-        book: &CheckedBook,
+        book: &DirectiveBook,
         compacts: Option<&CompactNames>,
         text: &[u8],
         end: usize,
@@ -86,7 +86,7 @@ impl<'a> Outlook<'a> {
     }
 
     // Whether some name equals a candidate or begins with its words. One that has an entry is such a name, and no other is asked.
-    pub fn may_grow(&mut self, book: &CheckedBook, candidate: &[u8], entry: Option<usize>) -> bool
+    pub fn may_grow(&mut self, book: &DirectiveBook, candidate: &[u8], entry: Option<usize>) -> bool
         requires not_empty { 0 < length candidate.now }
         requires value { entry ≡ entry_of (book_of book.now.bytes.now) candidate.now }
         requires ready { KeptFor (book_of book.now.bytes.now) candidate.now self.old }

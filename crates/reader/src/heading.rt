@@ -38,7 +38,7 @@ fn read_name(
     ensures { told result ≡ and_then (opening_of dialect.language dialect.prefix text.now) (name_at (book_of book.now.bytes.now) text.now) }
 {
     let cursor = opening::opening(dialect, text)?;
-    directive::lex_name(book, compacts, text, cursor.at)
+    directive::lex_name(&book.directive_book(), compacts, text, cursor.at)
 }
 
 // The head of a joined text, with so many slots for its clauses.

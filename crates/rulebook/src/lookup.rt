@@ -6,7 +6,7 @@ ghost use Rattle.rulebook.specs.Book.{rule_said, name_at, header_of, book_of};
 ghost use Rattle.rulebook.specs.Lookup.{comparison, entry_from, clause_entry};
 
 use crate::names::{Listed, Names};
-use crate::{CheckedBook, ClauseEntry, Header};
+use crate::{CheckedBook, ClauseEntry, DirectiveBook, Header};
 use ascii::{Range, same_byte};
 use bookform::{ClauseRule, Entries, EntryKind};
 
@@ -116,6 +116,34 @@ impl<'a> CheckedBook<'a> {
         }
     }
 
+    // What reading a directive's name asks of it.
+    pub fn directive_book(&self) -> DirectiveBook<'a>
+        ensures bytes { result.bytes.now ≡ self.now.bytes.now }
+        ensures header { result.header ≡ self.now.header }
+    {
+        DirectiveBook {
+            bytes: self.bytes,
+            header: self.header,
+            directives: &self.index.directives,
+        }
+    }
+
+    // The index of a directive's entry.
+    pub fn find_directive(&self, name: &[u8]) -> Option<usize>
+        ensures { result ≡ entry_from (comparison (book_of self.now.bytes.now)) 0 name.now (book_of self.now.bytes.now).directives }
+    {
+        self.directive_book().find_directive(name)
+    }
+
+    // The directives' names, in the order of their entries.
+    pub fn directive_names(&self) -> Names<'a>
+        ensures { result ≡ map (λ e. e.name) (book_of self.now.bytes.now).directives }
+    {
+        self.directive_book().directive_names()
+    }
+}
+
+impl<'a> DirectiveBook<'a> {
     // The index of a directive's entry.
     pub fn find_directive(&self, name: &[u8]) -> Option<usize>
         ensures { result ≡ entry_from (comparison (book_of self.now.bytes.now)) 0 name.now (book_of self.now.bytes.now).directives }
@@ -125,10 +153,7 @@ impl<'a> CheckedBook<'a> {
             book: self.bytes,
             entries: header.directives,
         };
-        let found = self
-            .index
-            .directives
-            .look_up(listed, name, header.ignores_case)?;
+        let found = self.directives.look_up(listed, name, header.ignores_case)?;
         Some(found.index)
     }
 

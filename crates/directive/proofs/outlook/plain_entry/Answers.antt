@@ -8,4 +8,4 @@ use Rattle.directive.proofs.outlook.plain_entry.Goals as goal
 pub returns-then-candidate-gt-LONGEST : goal.returns-then-candidate-gt-LONGEST
 returns-then-candidate-gt-LONGEST c =
     let b = c.args.book.now in
-    sym (entry-far (comparison (book_of b.bytes.now)) c.args.candidate.now c.if-candidate-gt-LONGEST.true 0 (book_of b.bytes.now).directives (short-book b.bytes.now b.valid))
+    sym (entry-far (comparison (book_of b.bytes.now)) c.args.candidate.now c.if-candidate-gt-LONGEST.true 0 (book_of b.bytes.now).directives (short-book b.bytes.now b.has_form))

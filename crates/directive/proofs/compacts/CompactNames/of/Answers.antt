@@ -27,7 +27,7 @@ loop-name-init c =
 pub of-next-requires : goal.of-next-requires
 of-next-requires c =
     let b = c.args.book.now in
-    short-at (book_of b.bytes.now).directives (short-book b.bytes.now b.valid) c.loop-name.number c.in-Some.name.now c.next.new.self (c.loop-name.invariant.rest ∙ (c.in-Some.ensures).steps)
+    short-at (book_of b.bytes.now).directives (short-book b.bytes.now b.has_form) c.loop-name.number c.in-Some.name.now c.next.new.self (c.loop-name.invariant.rest ∙ (c.in-Some.ensures).steps)
 
 pub as_slice-requires-in-loop-name : goal.as_slice-requires-in-loop-name
 as_slice-requires-in-loop-name c = omega (arith, c.loop-name.invariant.before.fits, c.loop-name.invariant.before.long)

@@ -6,7 +6,7 @@ use Rattle.ascii.specs.Ascii.{fold}
 use Rattle.rulebook.specs.Book.{book_of}
 use Rattle.rulebook.specs.declared.Header.{Header}
 use Rattle.directive.specs.declared.foreseen.Tally.TheVariants.{Zero}
-use Rattle.rulebook.specs.declared.CheckedBook.{CheckedBook}
+use Rattle.rulebook.specs.declared.DirectiveBook.{DirectiveBook}
 use Rattle.directive.specs.declared.compacts.CompactNames.{CompactNames}
 use Rattle.directive.specs.Name.{compact}
 use Rattle.directive.specs.Compacts.{Agreed, Compacts, no_name}
@@ -30,7 +30,7 @@ loop-number-init c = record {
 }
 
 -- the name at hand is one of the book's, and the letters agree with it so far
-module _ (b : CheckedBook) (cs : CompactNames) (made : Compacts (book_of b.bytes.now) cs) where
+module _ (b : DirectiveBook) (cs : CompactNames) (made : Compacts (book_of b.bytes.now) cs) where
   within : {i : ℕ} → i < b.header.directives.count → i < length (book_of b.bytes.now).directives
   within l = omega (arith, l, directives-count b.bytes.now, ap (λ (h : Header). h.directives.count) b.header_read)
 

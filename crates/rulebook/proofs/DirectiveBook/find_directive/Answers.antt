@@ -1,13 +1,12 @@
--- `rulebook::CheckedBook::find_directive`: the index of what is found among the directive entries.
+-- `rulebook::DirectiveBook::find_directive`: the index of what is found among the directive entries.
 use Rattle.std.proofs.Common.{ap, sym, ◌∙◌}
-use Rattle.rulebook.proofs.Forms.{valid-form}
 use Rattle.rulebook.proofs.Finding.{index_of, header-directives, directive-index}
-use Rattle.rulebook.proofs.CheckedBook.find_directive.Goals as goal
+use Rattle.rulebook.proofs.DirectiveBook.find_directive.Goals as goal
 
 pub invariant_of-listed : goal.invariant_of-listed
 invariant_of-listed c =
     let b = c.args.self.now in
-    record { laid = header-directives _ _ (valid-form _ b.valid) b.header_read }
+    record { laid = header-directives _ _ b.has_form b.header_read }
 
 pub returns-in_err-found : goal.returns-in_err-found
 returns-in_err-found c =
