@@ -4,15 +4,16 @@ use Prim.Native.Nat.{ℕ, zero, suc, ◌+◌, ◌-◌, ◌<◌, ◌≤◌}
 use native.Mathlib.Nat.{add-zero}
 use native.Mathlib.Numerals.{add-one}
 use native.Mathlib.Omega.{arith}
-use mathlib.Core.Path.{◌≡◌, refl, ap, ◌∙◌}
+use mathlib.Core.Path.{◌≡◌, refl, sym, ap, ◌∙◌}
 use mathlib.Core.Bool.{Bool, true, false}
 use mathlib.Core.List.{List, [], ◌∷◌, ◌++◌, map, append_assoc}
-use lib.ListN.{length, take, drop, get_or, length-drop}
+use lib.ListN.{length, take, drop, get_or, length-take, length-drop}
 use lib.Seq.{drop-cons, get_or-drop}
 use lib.Dec.{eqb}
 use borrow.Author.Tests.{not-true}
 use Rattle.ascii.proofs.Flags.{and_left, and_right}
 use Rattle.std.specs.List.{prefix_len}
+use Rattle.std.proofs.lemmas.List.{take-take, take-append-le, take-append-drop}
 use Rattle.std.proofs.lemmas.List.Sums.{prefix_len_passes}
 use Rattle.ascii.specs.Text.{leading}
 use Rattle.ascii.proofs.Texts.{leading_le, leading_counts, leading-more}
@@ -56,7 +57,7 @@ pub none-any : BeginsNone is_plain any_cut
 none-any = record { none = plain-any }
 
 module _ (cut : List ℕ → ℕ) (xs : List ℕ) where
-  stays-none : (from : ℕ) → from ≤ length xs → Stays cut xs from from
+  pub stays-none : (from : ℕ) → from ≤ length xs → Stays cut xs from from
   unfolding counted
   stays-none from h =
       let n : from - from ≡ 0 = omega arith in
@@ -112,3 +113,10 @@ module _ (i k n : ℕ) where
 pub filled : {A : Type 0} (slots part to_come behind whole : List A) (k : ℕ) → k ≤ length slots → to_come ≡ part ++ behind → take k slots ++ to_come ≡ whole
     → take (k + length part) (put_mid k (k + length part - k) slots part) ++ behind ≡ whole
 filled slots part to_come behind whole k h e f = rw (take-put_mid k (k + length part - k) slots part (k + length part) refl h, append_assoc, ← e) f
+
+-- slots whose first k are a list's hold fewer of it too
+pub front-same : {A : Type 0} (m k : ℕ) (slots whole : List A) → m ≤ k → m ≤ length slots → take k slots ++ drop k whole ≡ whole → take m slots ++ drop m whole ≡ whole
+front-same m k slots whole h w e =
+    let short : m ≤ length (take k slots) = rw length-take (omega arith) in
+    let front : take m slots ≡ take m whole = sym (take-append-le m (take k slots) (drop k whole) short ∙ take-take m k slots h) ∙ ap (take m) e in
+    rw front (take-append-drop m whole)

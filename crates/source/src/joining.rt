@@ -163,7 +163,7 @@ pub fn copy_into(content: &[u8], copy: &mut [u8]) -> usize
             Some(gone) => i += gone,
             None => {
                 let run = &content[i..runs::plain_end(content, i + 1)];
-                copy[k..k + run.len()].copy_from_slice(run);
+                runs::copy_run(run, &mut copy[k..k + run.len()]);
                 k += run.len();
                 i += run.len();
             }

@@ -20,7 +20,7 @@ loop-i-preserved c =
     let o : i ≤ end = s.ordered in
     let w : end ≤ length t = s.within in
     let n : length run ≡ end - i = length-take-le (end - i) (drop i t) (rw length-drop (omega arith)) in
-    let part : c.copy_from_slice.new.self ≡ run = search rules in
+    let part : c.copy_run.new.slots ≡ run = search rules in
     let m : i + length run ≡ end = omega arith in
     record {
       behind = omega arith;
