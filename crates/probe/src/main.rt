@@ -3,6 +3,7 @@
 
 mod back;
 mod book;
+mod buffers;
 mod calls;
 mod copy;
 mod form;
@@ -16,37 +17,32 @@ mod trim;
 mod words;
 mod work;
 
-use std::alloc::Global;
+use buffers::{Answers, Gathered};
 use std::io;
-use std::io::{BufRead, BufReader, BufWriter, Read, Stdin, Stdout, Write};
+use std::io::{ErrorKind, Read, Stdin, Write};
 use work::{Lent, Spelled};
 
 // A request of so many bytes, its line's end apart, is too long. The length alone says so: a kind beside it would say the same again.
 const TOO_LONG: usize = 262144;
 
-// The words of the longest request; one more tells that there are too many.
+// The words of the longest request.
 const MOST_WORDS: usize = 8;
 
-// Reads the next request, of one that is too long its first bytes, into a buffer that is kept for all requests; false where there is none.
-fn next_request(input: &mut impl BufRead, line: &mut Vec<u8>) -> io::Result<bool> {
-    line.clear();
-    input
-        .by_ref()
-        .take(TOO_LONG as u64)
-        .read_until(b'\n', line)?;
-    if line.last() == Some(&b'\n') {
-        line.pop();
-        return Ok(true);
+// Puts the words of a line at the start of an array; None where they are too many.
+fn words_of<'w, 'l>(
+    line: &'l [u8],
+    words: &'w mut [&'l [u8]; MOST_WORDS],
+) -> Option<&'w [&'l [u8]]> {
+    let blanks = line.iter().filter(|b| **b == b' ').count();
+    let used = words.get_mut(..blanks + 1)?;
+    for (word, slot) in line.split(|b| *b == b' ').zip(used.iter_mut()) {
+        *slot = word;
     }
-    if line.len() == TOO_LONG {
-        input.skip_until(b'\n')?;
-    }
-    Ok(!line.is_empty())
+    Some(used)
 }
 
 // The answer to a request, and the end of its line.
 fn answer(
-    alloc: Global,
     line: &[u8],
     spelled: &mut Spelled,
     lent: &mut Lent,
@@ -55,41 +51,59 @@ fn answer(
     if line.len() == TOO_LONG {
         return out.write_all(b"bad request\n");
     }
-    let words: Vec<&[u8]> = line
-        .split(|b| *b == b' ')
-        .take(MOST_WORDS + 1)
-        .collect(alloc)?;
-    match calls::call_of(words.as_slice(), spelled) {
+    let mut words: [&[u8]; MOST_WORDS] = [&[]; MOST_WORDS];
+    let call = words_of(line, &mut words).and_then(|words| calls::call_of(words, spelled));
+    match call {
         Some(call) => call.answer(lent, out),
         None => out.write_all(b"bad request\n"),
     }
 }
 
-// A proved loop has to end, and nothing says that the input does: it has more turns than any run uses up. Where a read fails, what was read before is answered first.
-fn run(
-    alloc: Global,
-    input: Stdin,
-    output: Stdout,
+// Answers the requests that end in a chunk, and gathers the start of the next: a line's end stands before each piece but the first. What a request that is too long has beyond its room is passed over.
+fn take_chunk(
+    chunk: &[u8],
+    line: &mut Gathered<TOO_LONG>,
     spelled: &mut Spelled,
     lent: &mut Lent,
+    out: &mut impl Write,
 ) -> io::Result<()> {
-    let mut input = BufReader::with_capacity(alloc, 65536, input)?;
-    let mut out = BufWriter::with_capacity(alloc, 65536, output)?;
-    let mut line = Vec::new(alloc);
+    for (i, piece) in chunk.split(|b| *b == b'\n').enumerate() {
+        if i > 0 {
+            answer(line.as_slice(), spelled, lent, out)?;
+            line.clear();
+        }
+        let _ = line.add(piece);
+    }
+    Ok(())
+}
+
+// Answers the requests of the input, and gives the error that ended it, if any. A proved loop has to end, and nothing says that the input does: it has more turns than any run uses up.
+fn run(
+    mut input: Stdin,
+    chunk: &mut [u8],
+    line: &mut Gathered<TOO_LONG>,
+    spelled: &mut Spelled,
+    lent: &mut Lent,
+    out: &mut impl Write,
+) -> io::Result<()> {
+    let mut end = Ok(());
     for _ in 0..u64::MAX {
-        match next_request(&mut input, &mut line) {
-            Ok(true) => answer(alloc, line.as_slice(), spelled, lent, &mut out)?,
-            Ok(false) => break,
+        match input.read(chunk) {
+            Ok(0) => break,
+            Ok(n) => take_chunk(&chunk[..n], line, spelled, lent, out)?,
             Err(e) => {
-                if !line.is_empty() {
-                    answer(alloc, line.as_slice(), spelled, lent, &mut out)?;
+                if e.kind() != ErrorKind::Interrupted {
+                    end = Err(e);
+                    break;
                 }
-                out.flush()?;
-                return Err(e);
             }
         }
     }
-    out.flush()
+    if !line.as_slice().is_empty() {
+        answer(line.as_slice(), spelled, lent, out)?;
+    }
+    out.flush()?;
+    end
 }
 
 fn main(rt: HostRuntime) -> io::Result<()> {
@@ -102,5 +116,15 @@ fn main(rt: HostRuntime) -> io::Result<()> {
         bytes: [0; 20000],
         numbers: [0; 20000],
     };
-    run(rt.alloc(), rt.stdin(), rt.stdout(), &mut spelled, &mut lent)
+    let mut chunk = [0; 65536];
+    let mut line = Gathered::new();
+    let mut out = Answers::new(rt.stdout());
+    run(
+        rt.stdin(),
+        &mut chunk,
+        &mut line,
+        &mut spelled,
+        &mut lent,
+        &mut out,
+    )
 }

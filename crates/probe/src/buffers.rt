@@ -1,0 +1,73 @@
+// Bytes gathered in arrays, so that the probe needs no allocator: a request, and the answers that wait to be written.
+ghost use Rattle.std.specs.Prelude.{◌≤◌, length};
+
+use std::io;
+use std::io::{Stdout, Write};
+
+// The first `len` bytes of an array of N.
+#[derive(Drop)]
+pub struct Gathered<const N: usize> {
+    bytes: [u8; N],
+    len: usize,
+    ghost within: { len ≤ N },
+}
+
+impl<const N: usize> Gathered<N> {
+    pub fn new() -> Gathered<N> {
+        Gathered {
+            bytes: [0; N],
+            len: 0,
+        }
+    }
+
+    pub fn as_slice(&self) -> &[u8] {
+        &self.bytes[..self.len]
+    }
+
+    pub fn clear(&mut self) {
+        self.len = 0;
+    }
+
+    // Takes as many bytes as there is room for, and tells how many.
+    pub fn add(&mut self, bytes: &[u8]) -> usize
+        ensures { result ≤ length bytes.now }
+    {
+        let all = &mut self.bytes[..];
+        let room = &mut all[self.len..];
+        let n = bytes.len().min(room.len());
+        room[..n].copy_from_slice(&bytes[..n]);
+        self.len += n;
+        n
+    }
+}
+
+// Standard output behind an array that is written whenever it is full.
+#[derive(Drop)]
+pub struct Answers {
+    to: Stdout,
+    waiting: Gathered<65536>,
+}
+
+impl Answers {
+    pub fn new(to: Stdout) -> Answers {
+        Answers {
+            to,
+            waiting: Gathered::new(),
+        }
+    }
+}
+
+impl Write for Answers {
+    fn write(&mut self, bytes: &[u8]) -> io::Result<usize> {
+        if self.waiting.as_slice().len() == 65536 {
+            self.flush()?;
+        }
+        Ok(self.waiting.add(bytes))
+    }
+
+    fn flush(&mut self) -> io::Result<()> {
+        self.to.write_all(self.waiting.as_slice())?;
+        self.waiting.clear();
+        Ok(())
+    }
+}
