@@ -55,19 +55,37 @@ impl Answers {
             waiting: Gathered::new(),
         }
     }
+
+    // Takes bytes for which there was no room. Stands apart, so that what there is room for is inlined.
+    #[cold]
+    #[inline(never)]
+    fn write_beyond(&mut self, bytes: &[u8]) -> io::Result<()> {
+        for piece in bytes.chunks(65536) {
+            self.flush()?;
+            let _ = self.waiting.add(piece);
+        }
+        Ok(())
+    }
 }
 
 impl Write for Answers {
     fn write(&mut self, bytes: &[u8]) -> io::Result<usize> {
-        if self.waiting.as_slice().len() == 65536 {
-            self.flush()?;
-        }
-        Ok(self.waiting.add(bytes))
+        self.write_all(bytes)?;
+        Ok(bytes.len())
     }
 
     fn flush(&mut self) -> io::Result<()> {
         self.to.write_all(self.waiting.as_slice())?;
         self.waiting.clear();
         Ok(())
+    }
+
+    #[inline(always)]
+    fn write_all(&mut self, bytes: &[u8]) -> io::Result<()> {
+        let n = self.waiting.add(bytes);
+        if n == bytes.len() {
+            return Ok(());
+        }
+        self.write_beyond(&bytes[n..])
     }
 }

@@ -25,20 +25,19 @@ use work::{Lent, Spelled};
 // A request of so many bytes, its line's end apart, is too long. The length alone says so: a kind beside it would say the same again.
 const TOO_LONG: usize = 262144;
 
-// The words of the longest request.
-const MOST_WORDS: usize = 8;
+// One more word than the longest request has, so that too many are told.
+const WORDS: usize = 9;
 
-// Puts the words of a line at the start of an array; None where they are too many.
-fn words_of<'w, 'l>(
-    line: &'l [u8],
-    words: &'w mut [&'l [u8]; MOST_WORDS],
-) -> Option<&'w [&'l [u8]]> {
-    let blanks = line.iter().filter(|b| **b == b' ').count();
-    let used = words.get_mut(..blanks + 1)?;
-    for (word, slot) in line.split(|b| *b == b' ').zip(used.iter_mut()) {
-        *slot = word;
+// Puts the words of a line at the start of an array, as far as it goes.
+fn words_of<'w, 'l>(line: &'l [u8], words: &'w mut [&'l [u8]; WORDS]) -> &'w [&'l [u8]] {
+    let mut rest = line.split(|b| *b == b' ');
+    for i in 0..WORDS {
+        match rest.next() {
+            Some(word) => words[i] = word,
+            None => return &words[..i],
+        }
     }
-    Some(used)
+    words
 }
 
 // The answer to a request, and the end of its line.
@@ -51,9 +50,8 @@ fn answer(
     if line.len() == TOO_LONG {
         return out.write_all(b"bad request\n");
     }
-    let mut words: [&[u8]; MOST_WORDS] = [&[]; MOST_WORDS];
-    let call = words_of(line, &mut words).and_then(|words| calls::call_of(words, spelled));
-    match call {
+    let mut words: [&[u8]; WORDS] = [&[]; WORDS];
+    match calls::call_of(words_of(line, &mut words), spelled) {
         Some(call) => call.answer(lent, out),
         None => out.write_all(b"bad request\n"),
     }
