@@ -41,11 +41,14 @@ impl<const N: usize> Gathered<N> {
     }
 }
 
+// How many bytes of answers are written at once.
+const ROOM: usize = 65536;
+
 // Standard output behind an array that is written whenever it is full.
 #[derive(Drop)]
 pub struct Answers {
     to: Stdout,
-    waiting: Gathered<65536>,
+    waiting: Gathered<ROOM>,
 }
 
 impl Answers {
@@ -60,9 +63,9 @@ impl Answers {
     #[cold]
     #[inline(never)]
     fn write_beyond(&mut self, bytes: &[u8]) -> io::Result<()> {
-        for piece in bytes.chunks(65536) {
+        for piece in bytes.chunks(ROOM) {
             self.flush()?;
-            let _ = self.waiting.add(piece);
+            self.waiting.add(piece);
         }
         Ok(())
     }

@@ -25,13 +25,16 @@ use work::{Lent, Spelled};
 // A request of so many bytes, its line's end apart, is too long. The length alone says so: a kind beside it would say the same again.
 const TOO_LONG: usize = 262144;
 
-// One more word than the longest request has, so that too many are told.
-const WORDS: usize = 9;
+// The words of the longest request; one more tells that there are too many.
+const MOST_WORDS: usize = 8;
+
+// How much is read at once.
+const CHUNK: usize = 16384;
 
 // Puts the words of a line at the start of an array, as far as it goes.
-fn words_of<'w, 'l>(line: &'l [u8], words: &'w mut [&'l [u8]; WORDS]) -> &'w [&'l [u8]] {
+fn words_of<'w, 'l>(line: &'l [u8], words: &'w mut [&'l [u8]; MOST_WORDS + 1]) -> &'w [&'l [u8]] {
     let mut rest = line.split(|b| *b == b' ');
-    for i in 0..WORDS {
+    for i in 0..MOST_WORDS + 1 {
         match rest.next() {
             Some(word) => words[i] = word,
             None => return &words[..i],
@@ -50,7 +53,7 @@ fn answer(
     if line.len() == TOO_LONG {
         return out.write_all(b"bad request\n");
     }
-    let mut words: [&[u8]; WORDS] = [&[]; WORDS];
+    let mut words: [&[u8]; MOST_WORDS + 1] = [&[]; MOST_WORDS + 1];
     match calls::call_of(words_of(line, &mut words), spelled) {
         Some(call) => call.answer(lent, out),
         None => out.write_all(b"bad request\n"),
@@ -70,12 +73,12 @@ fn take_chunk(
             answer(line.as_slice(), spelled, lent, out)?;
             line.clear();
         }
-        let _ = line.add(piece);
+        line.add(piece);
     }
     Ok(())
 }
 
-// Answers the requests of the input, and gives the error that ended it, if any. A proved loop has to end, and nothing says that the input does: it has more turns than any run uses up.
+// A proved loop has to end, and nothing says that the input does: it has more turns than any run uses up. Where a read fails, what was read before is answered first. A last request may lack its line's end.
 fn run(
     mut input: Stdin,
     chunk: &mut [u8],
@@ -89,11 +92,10 @@ fn run(
         match input.read(chunk) {
             Ok(0) => break,
             Ok(n) => take_chunk(&chunk[..n], line, spelled, lent, out)?,
+            Err(e) if e.kind() == ErrorKind::Interrupted => {}
             Err(e) => {
-                if e.kind() != ErrorKind::Interrupted {
-                    end = Err(e);
-                    break;
-                }
+                end = Err(e);
+                break;
             }
         }
     }
@@ -114,7 +116,7 @@ fn main(rt: HostRuntime) -> io::Result<()> {
         bytes: [0; 20000],
         numbers: [0; 20000],
     };
-    let mut chunk = [0; 65536];
+    let mut chunk = [0; CHUNK];
     let mut line = Gathered::new();
     let mut out = Answers::new(rt.stdout());
     run(
