@@ -42,6 +42,8 @@ impl<'s> Request<'s> {
         })
     }
 
+    // Stands apart, so that no other request has room for its records on the stack.
+    #[inline(never)]
     pub fn answer(self, lent: &mut Lent, out: &mut impl Write) -> io::Result<()> {
         let Request {
             form,

@@ -27,6 +27,8 @@ impl<'s> Request<'s> {
         })
     }
 
+    // Stands apart, so that no other request has room for its records on the stack.
+    #[inline(never)]
     pub fn answer(self, out: &mut impl Write) -> io::Result<()> {
         let Request { slots, book, text } = self;
         let done = clause::parse_sequence_array(book, text, slots.get(), [ClauseRecord::MARK; 512]);
