@@ -12,18 +12,24 @@ pub trait ByteSet {
         ensures { result ≡ holds b };
 }
 
+#[derive(Clone, Copy)]
 pub struct Trimmed;
 
+#[derive(Clone, Copy)]
 pub struct Space;
 
+#[derive(Clone, Copy)]
 pub struct Blank;
 
+#[derive(Clone, Copy)]
 pub struct Word;
 
 // All but LF and CR.
+#[derive(Clone, Copy)]
 pub struct InLine;
 
 // All up to 127.
+#[derive(Clone, Copy)]
 pub struct Low;
 
 impl ByteSet for Trimmed {

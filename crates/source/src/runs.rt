@@ -9,12 +9,15 @@ ghost use Rattle.source.specs.Staying.{is_plain_c, is_plain_f, is_plain, counted
 use ascii::sets::ByteSet;
 
 // All but `\`.
+#[derive(Clone, Copy)]
 pub struct PlainC;
 
 // All but `&`.
+#[derive(Clone, Copy)]
 pub struct PlainF;
 
 // All but `\` and `&`.
+#[derive(Clone, Copy)]
 pub struct Plain;
 
 impl ByteSet for PlainC {
