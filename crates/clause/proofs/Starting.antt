@@ -2,13 +2,14 @@
 -- By cases on the trivia.
 use Prim.Native.Nat.{ℕ, ◌-◌, ◌≤◌}
 use Rattle.std.specs.Prelude.{Some, None, Result, Ok, Err}
+use mathlib.Core.Bool.{false, true≢false}
 use mathlib.Core.Path.{◌≡◌, ◌∙◌, refl, sym, ap}
 use mathlib.Core.List.{List}
 use native.Mathlib.Omega.{arith}
 use lib.ListN.{length, replicate}
 use Rattle.refusal.specs.declared.Refusal.{Refusal}
 use Rattle.refusal.specs.declared.Reason.TheVariants.{WrongBook}
-use Rattle.refusal.specs.Answer.{Answer, given, refused_by, and_then, unless_fault, admitted, max_length}
+use Rattle.refusal.specs.Answer.{Answer, given, refused_by, told, and_then, unless_fault, admitted, max_length}
 use Rattle.refusal.specs.Verdict.{text_verdict, fine, refusal_at}
 use Rattle.refusal.proofs.Admission.{admits-fine, admits-bad}
 use Rattle.lexer.specs.Trivia.{skip}
@@ -22,7 +23,10 @@ use Rattle.clause.specs.declared.SequenceEnd.{SequenceEnd}
 use Rattle.clause.specs.Clause.{zero_record}
 use Rattle.clause.specs.Sequence.{Sequence, sequence_at}
 use Rattle.clause.specs.Calls.{SequenceCall, counted, sequence_call, Admits}
-use Rattle.clause.specs.Steps.{Started, begun_at, start_at, read_on, settled}
+use Rattle.clause.specs.declared.Progress.{Progress}
+use Rattle.clause.specs.declared.Progress.TheVariants.{Going, Ended, Refused}
+use Rattle.clause.specs.declared.SequenceState.{SequenceState}
+use Rattle.clause.specs.Steps.{Started, begun_at, start_at, is_going, answer_by, answer_of, read_from, read_on, settled}
 
 module _ (bk t : List ℕ) (left at : ℕ) where
   -- a start behind trivia
@@ -81,3 +85,14 @@ module _ (bk t : List ℕ) (size : ℕ) where
       → ◌≡◌ {A = Answer SequenceEnd} (refused_by r) (sequence_call bk t size).answer
   unfolding sequence_call
   answer-wrong r v e f = rw (wrong-book bk t r (sequence_at (book_of bk) t size 0) v e f) refl
+
+-- a start that does not go on: nothing is read, whatever the book and the text
+module _ (bk t : List ℕ) (s : SequenceState) (size : ℕ) where
+  pub rests-settled : (r : Result SequenceEnd Refusal) (us : List ClauseRecord) → is_going s.progress ≡ false → s.count ≡ 0 → r ≡ answer_of s → us ≡ replicate size zero_record
+      → ◌≡◌ {A = SequenceCall} (record { answer = told r; records = us }) (settled size (read_on bk t s))
+  rests-settled r us e c a h = go s.progress e a
+    where
+      go : (p : Progress) → is_going p ≡ false → r ≡ answer_by s p → ◌≡◌ {A = SequenceCall} (record { answer = told r; records = us }) (settled size (read_from bk t s p))
+      go Going e a = absurd (true≢false e)
+      go Ended e a = let z : size - 0 ≡ size = omega arith in rw (a, c, z, h) refl
+      go (Refused f) e a = let z : size - 0 ≡ size = omega arith in rw (a, z, h) refl

@@ -43,8 +43,8 @@ pub struct ClauseRecord {
 pub struct ClauseList<'a> {
     pub book: &'a CheckedBook<'a>,
     pub text: &'a [u8],
-    marks: &'a [u32],
-    ghost marked: { Marked (style (book_of book.now.bytes.now).ignores_case) text.now marks.now },
+    pub marks: &'a [u32],
+    pub ghost marked: { Marked (style (book_of book.now.bytes.now).ignores_case) text.now marks.now },
 }
 
 // A text of fewer bytes than these needs no more numbers for its marks than those: most lines are as short.

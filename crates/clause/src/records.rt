@@ -1,9 +1,10 @@
 // The thin writers: clause records into a lent slice of slots.
-ghost use Rattle.std.specs.Prelude.{◌≡◌, ◌/◌, ◌<◌, ◌≤◌, length};
+ghost use Rattle.std.specs.Prelude.{◌≡◌, ◌/◌, ◌<◌, ◌≤◌, ℕ, List, length, IfSome};
+ghost use Rattle.std.specs.Option.{IsSome};
 ghost use Rattle.refusal.specs.Answer.{told, max_length};
 ghost use Rattle.clause.specs.Clause.{zero_record};
 ghost use Rattle.clause.specs.Calls.{SequenceCall};
-ghost use Rattle.clause.specs.Steps.{Proper, Started, state_at, records_from, read_on, settled};
+ghost use Rattle.clause.specs.Steps.{Proper, Started, WhenGoing, state_at, records_from, read_on, settled};
 
 use crate::{
     ClauseList, ClauseRecord, SHORT_CELLS, SHORT_TEXT, SequenceEnd, SequenceState, single,
@@ -95,4 +96,25 @@ pub fn read_clauses(
         return read_marked::<SHORT_CELLS>(book, text, start, records);
     }
     read_marked::<MARK_CELLS>(book, text, start, records)
+}
+
+// The same from a start that may have ended or been refused: only one that goes on is read, under its book. Of any other the book and the text are asked nothing.
+pub fn read_from(
+    book: Option<&CheckedBook>,
+    text: &[u8],
+    start: SequenceState,
+    records: &mut [ClauseRecord],
+) -> Result<SequenceEnd, Refusal>
+    requires started { Started text.now (length records.old) start }
+    requires checked { WhenGoing start.progress (IsSome book) }
+    ensures { (bytes : List ℕ) → IfSome book.entry (λ b. b.now.bytes.now ≡ bytes) → record { answer = told result; records = records.new }
+        ≡ settled (length records.old) (read_on bytes text.now start) }
+{
+    if start.goes_on() {
+        if let Some(book) = book {
+            return read_clauses(book, text, start, records);
+        }
+    }
+    records.fill(zero_record());
+    start.answer()
 }

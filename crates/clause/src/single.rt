@@ -18,15 +18,15 @@ use rulebook::CheckedBook;
 
 // A clause's word in its text, and its entry in the book, if it has one.
 #[derive(Clone, Copy)]
-struct ClauseWord<'a> {
-    text: &'a [u8],
-    fortran: bool,
-    marks: &'a [u32],
-    start: usize,
-    end: usize,
-    entry: Option<u16>,
-    ghost word: { WordIn text.now start end },
-    ghost marked: { Marked (style fortran) text.now marks.now },
+pub struct ClauseWord<'a> {
+    pub text: &'a [u8],
+    pub fortran: bool,
+    pub marks: &'a [u32],
+    pub start: usize,
+    pub end: usize,
+    pub entry: Option<u16>,
+    pub ghost word: { WordIn text.now start end },
+    pub ghost marked: { Marked (style fortran) text.now marks.now },
 }
 
 // What a record tells C of a word without an entry.

@@ -83,7 +83,7 @@ impl SequenceState {
     }
 
     // The answer, once the last step is done.
-    fn answer(self) -> Result<SequenceEnd, Refusal>
+    pub(crate) fn answer(self) -> Result<SequenceEnd, Refusal>
         ensures { result ≡ answer_of self }
     {
         match self.progress {
