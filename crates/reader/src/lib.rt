@@ -13,6 +13,7 @@ ghost use Rattle.reader.specs.Calls.{LineCall, line_call, line_within};
 
 use clause::records::zero_record;
 use clause::{ClauseRecord, RecordArray};
+pub use heading::Head;
 use lexer::Dialect;
 use refusal::Refusal;
 
