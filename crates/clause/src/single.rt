@@ -52,7 +52,7 @@ fn style_of(fortran: bool) -> CommentStyle
 }
 
 // The marks of a text whose clauses are to be read under a book.
-pub(crate) fn fill_marks(book: &CheckedBook, text: &[u8], marks: &mut [u32])
+pub fn fill_marks(book: &CheckedBook, text: &[u8], marks: &mut [u32])
     requires { (length text.now ≤ max_length) × (length text.now / 32 < length marks.old) }
     ensures { Marked (style (book_of book.now.bytes.now).ignores_case) text.now marks.new }
 {
