@@ -96,3 +96,7 @@ module _ (bk t : List ℕ) (s : SequenceState) (size : ℕ) where
       go Going e a = absurd (true≢false e)
       go Ended e a = let z : size - 0 ≡ size = omega arith in rw (a, c, z, h) refl
       go (Refused f) e a = let z : size - 0 ≡ size = omega arith in rw (a, z, h) refl
+
+  pub rests-answered : (r : Result SequenceEnd Refusal) → is_going s.progress ≡ false → s.count ≡ 0 → r ≡ answer_of s
+      → ◌≡◌ {A = Answer SequenceEnd} (told r) (and_then (read_on bk t s) (λ q. given (counted q)))
+  rests-answered r e c a = ap (λ (q : SequenceCall). q.answer) (rests-settled r (replicate size zero_record) e c a refl)

@@ -56,10 +56,13 @@ pub fn count_clauses(
     start: SequenceState,
     slots: usize,
 ) -> Result<SequenceEnd, Refusal>
-    requires short { length text.now ≤ max_length }
-    requires started { Started text.now slots start }
+    requires { Started text.now slots start }
     ensures { told result ≡ and_then (read_on book.now.bytes.now text.now start) (λ s. given (counted s)) }
 {
+    // a start that does not go on says nothing of the length of its text
+    if !start.goes_on() {
+        return start.answer();
+    }
     if text.len() < SHORT_TEXT {
         return count_marked::<SHORT_CELLS>(book, text, start, slots);
     }

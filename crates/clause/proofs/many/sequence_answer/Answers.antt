@@ -13,11 +13,8 @@ returns-in_err-check_text c =
     let p = err_from_is_err_and c.from_residual.result c.from_residual.ensures.1 in
     rw (p.1, p.2) (λ bytes j. answer-refused bytes c.args.text.now c.args.slots _ (sym c.in_err-check_text.ensures))
 
-pub count_clauses-requires-clause-short : goal.count_clauses-requires-clause-short
-count_clauses-requires-clause-short c = admits-length c.args.text.now (sym c.in_ok-check_text.ensures)
-
-pub count_clauses-requires-clause-started : goal.count_clauses-requires-clause-started
-count_clauses-requires-clause-started c =
+pub count_clauses-requires : goal.count_clauses-requires
+count_clauses-requires c =
     let t = c.args.text.now in
     rw c.start_at-start.ensures (started-at c.in-Ok.book.bytes.now t c.args.slots 0 (admits-length t (sym c.in_ok-check_text.ensures)) (omega arith))
 

@@ -22,11 +22,8 @@ returns-in_err-head-in-Ok c = λ bytes j.
     rw (p.1, p.2) (sym (within-refused a.dialect.language a.dialect.prefix bytes a.line.now a.slots (length a.text.now) (length a.map.now) a.slots c.in_err-head-in-Ok.field-0.0
     (rw (b, c.head_of_fit.auto.text, c.head_of_fit.auto.map) at h)))
 
-pub count_clauses-requires-clause-short : goal.count_clauses-requires-clause-short
-count_clauses-requires-clause-short c = (rw c.in_ok-head-in-Ok.was at c.head_of_fit.ensures).heads.short
-
-pub count_clauses-requires-clause-started : goal.count_clauses-requires-clause-started
-count_clauses-requires-clause-started c = (rw c.in_ok-head-in-Ok.was at c.head_of_fit.ensures).heads.started
+pub count_clauses-requires : goal.count_clauses-requires
+count_clauses-requires c = (rw c.in_ok-head-in-Ok.was at c.head_of_fit.ensures).heads.started
 
 pub returns-in_err-end-in-Ok : goal.returns-in_err-end-in-Ok
 returns-in_err-end-in-Ok c = λ bytes j.
