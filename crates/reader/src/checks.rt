@@ -13,6 +13,7 @@ fn is_suited(language: Language, ignores_case: bool) -> bool
 }
 
 // The language against the book, and the physical lines.
+#[tactic(auto, unfolding(crate::specs::Steps::line_verdict))]
 pub fn check_line(dialect: Dialect, ignores_case: bool, line: &[u8]) -> Result<(), Refusal>
     ensures { result ≡ line_verdict dialect.language dialect.prefix ignores_case line.now }
 {
