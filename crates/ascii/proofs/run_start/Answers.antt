@@ -7,4 +7,4 @@ pub returns-in-Some-clause-value : goal.returns-in-Some-clause-value
 returns-in-Some-clause-value g c = trailing_is g.S.ByteSet.holds c.args.text.now (c.in-Some.i + 1) (search rules) (search rules) (search rules)
 
 pub returns-in-None-clause-value : goal.returns-in-None-clause-value
-returns-in-None-clause-value g c = trailing_is g.S.ByteSet.holds c.args.text.now 0 (search rules) (search rules) (search rules)
+returns-in-None-clause-value g c = trailing_is g.S.ByteSet.holds c.args.text.now _ (search rules) (search rules) (search rules)
