@@ -1,5 +1,7 @@
 -- A byte that stays is written with its place; a continuation is passed over. Assumes nothing.
-use Rattle.std.proofs.Common.{◌∙◌, ◌<◌, sym, arith, length}
+use Rattle.std.proofs.Common.{◌≡◌, ◌<◌, None, Some, arith, length, drop}
+use Rattle.std.proofs.lemmas.Grind.{common_steps}
+use Rattle.lexer.specs.Continuation.{if_any}
 use Rattle.ascii.proofs.Slots.{pushed}
 use Rattle.source.specs.Joining.{cut_of}
 use Rattle.source.proofs.Kept.{kept_next, kept-jump}
@@ -9,7 +11,7 @@ pub loop-i-preserved : goal.loop-i-preserved
 loop-i-preserved g c =
     let l = c.loop-i in
     let h : l.i < length c.args.lines.now.text.now = omega arith in
-    let none = sym c.cut_but.ensures.value ∙ c.in-None.is in
+    let none : if_any (cut_of c.args.language (drop l.i c.args.lines.now.text.now)) ≡ None = grind (arith, common_steps) in
     let a : l.k < length l.text = omega arith in
     let b : l.k < length l.map = omega arith in
     record {
@@ -23,10 +25,10 @@ pub loop-i-preserved-in-Some : goal.loop-i-preserved-in-Some
 loop-i-preserved-in-Some g c =
     let l = c.loop-i in
     let h : l.i < length c.args.lines.now.text.now = omega arith in
-    let cut = sym c.cut_but.ensures.value ∙ c.in-Some.is in
+    let cut : if_any (cut_of c.args.language (drop l.i c.args.lines.now.text.now)) ≡ Some c.in-Some.gone = grind (arith, common_steps) in
     record {
       behind = omega arith;
-      within = c.in-Some.ensures.within;
+      within = grind (arith, common_steps);
       text = rw (← kept-jump (cut_of c.args.language) c.args.lines.now.text.now l.i c.in-Some.gone h cut) l.invariant.text;
       map = rw (← kept-jump (cut_of c.args.language) c.args.lines.now.text.now l.i c.in-Some.gone h cut) l.invariant.map;
     }
