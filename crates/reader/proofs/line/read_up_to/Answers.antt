@@ -1,12 +1,17 @@
 -- `read_up_to` meets its contract: the first that refuses, or the clauses in their slots.
-use Rattle.std.proofs.Common.{◌+◌, ◌≤◌, arith, rules, length, sym, ap, ◌∙◌}
+use Rattle.std.proofs.Common.{◌≡◌, ◌++◌, ◌+◌, ◌-◌, ◌≤◌, ℕ, List, arith, rules, length, take, replicate, sym, ap, ◌∙◌}
 use Rattle.std.proofs.lemmas.Result.{err_from_is_err_and}
+use borrow.Rule.Slice.PartMut.{put_mid}
 use Rattle.ascii.proofs.Slots.{zeros-behind}
 use Rattle.refusal.specs.Answer.{refused_by, told}
 use Rattle.clause.specs.Calls.{SequenceCall}
 use Rattle.reader.proofs.Checking.{line-call, line-book}
 use Rattle.reader.proofs.Settled.{within-refused, clauses-refused, line-done}
 use Rattle.reader.proofs.line.read_up_to.Goals as goal
+
+-- all from a place on is zeroed that is the nth
+zeros-from : (z : ℕ) (xs ys : List ℕ) (from n : ℕ) → from ≡ n → n ≤ length xs → ys ≡ replicate (length xs - from) z → put_mid from (length xs - from) xs ys ≡ take n xs ++ replicate (length xs - n) z
+zeros-from z xs ys from n e h zeros = rw e (zeros-behind z xs ys n h (rw e at zeros))
 
 pub returns-in_err-check_fit : goal.returns-in_err-check_fit
 returns-in_err-check_fit c =
@@ -62,4 +67,4 @@ returns c =
     let l : n + 1 ≤ length m = omega (arith, h.within.1) in
     rw c.reading.ensures
     (line-done a.dialect.language a.dialect.prefix c.in_ok-book.book.bytes.now a.line.now (length a.records.now) t m c.in_ok-head.head h (length a.records.now) (length a.text.now) (length a.map.now) a.book.now _ _
-    c.read_clauses.new.records c.in_ok-end.end b c.head_of_fit.auto.text c.head_of_fit.auto.map e (zeros-behind 0 t c.fill.new.self n h.within.0 (search rules)) (zeros-behind 0 m c.fill-2.new.self (n + 1) l (search rules)))
+    c.read_clauses.new.records c.in_ok-end.end b c.head_of_fit.auto.text c.head_of_fit.auto.map e (zeros-from 0 t c.fill.new.self _ n (omega (arith, h.within.0)) h.within.0 (search rules)) (zeros-behind 0 m c.fill-2.new.self (n + 1) l (search rules)))
