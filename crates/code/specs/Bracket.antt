@@ -1,6 +1,5 @@
 -- Brackets: the bytes of their kinds, and what a byte of code does to the open ones, given by their closing bytes, the innermost first.
-use Rattle.std.specs.Prelude.{ℕ, zero, suc, Bool, true, false, cond, ◌||◌, List, [], ◌∷◌, length, drop, get_or, set, replicate, eqb, ltb, Result, Ok, Err, ◌≡◌, refl}
-use Rattle.std.proofs.Common.{ap}
+use Rattle.std.specs.Prelude.{ℕ, Bool, true, false, cond, ◌||◌, List, [], ◌∷◌, length, drop, eqb, ltb, Result, Ok, Err}
 use Rattle.code.specs.declared.Bracket.{Bracket}
 use Rattle.code.specs.declared.Bracket.TheVariants.{Round, Square, Curly, Angle}
 use Rattle.code.specs.declared.BracketError.{BracketError}
@@ -75,17 +74,3 @@ abbrev pub outcome : Result (Unit {0}) BracketError → List ℕ → Brackets
 outcome (Ok u) stack = held stack
 outcome (Err Wrong) stack = wrong
 outcome (Err Deep) stack = deep
-
--- the first d entries of an array, the last one first: the declared stack as a list, the innermost first
-abbrev pub stacked : List ℕ → ℕ → List ℕ
-stacked ks zero = []
-stacked ks (suc d) = get_or ks d 0 ∷ stacked ks d
-
-pub length-stacked : (ks : List ℕ) (d : ℕ) → length (stacked ks d) ≡ d
-length-stacked ks zero = refl
-length-stacked ks (suc d) = ap suc (length-stacked ks d)
-
--- the array of a declared stack: the closing bytes, the outermost first, and zero in each slot past them
-abbrev pub slots : List ℕ → List ℕ
-slots [] = replicate max_depth 0
-slots (b ∷ r) = set (slots r) (length r) b

@@ -4,3 +4,4 @@ pub mod Matching
 pub mod Marks
 pub mod Laws
 pub mod Examples
+pub mod Stack

@@ -135,7 +135,7 @@ impl OpenBrackets {
         Ok(())
     }
 
-    // The innermost less, if there is one. The slot that it leaves is zero again.
+    // The innermost less, if there is one. The place that it leaves is zero again.
     pub fn pop(&mut self)
         ensures { self.new ≡ drop 1 self.old }
     {

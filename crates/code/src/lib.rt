@@ -8,7 +8,8 @@ pub mod matching;
 
 ghost use Rattle.std.specs.Prelude.{ℕ, ◌≡◌, ◌≤◌, List, length};
 ghost use Rattle.std.proofs.Common.{sym};
-ghost use Rattle.code.specs.Bracket.{stacked, length-stacked, slots, max_depth};
+ghost use Rattle.code.specs.Bracket.{max_depth};
+ghost use Rattle.code.specs.Stack.{stacked, array_of, length-stacked};
 
 use std::marker::Model;
 
@@ -63,7 +64,7 @@ pub enum Bracket {
 const MAX_DEPTH: usize = 256;
 
 // The open brackets: the closing byte of each, the outermost first, and how many they are. Seen as the list of these bytes, the innermost first.
-// An array with a depth, as there is no heap; changed in place, as it is too many bytes to copy at each bracket. The slots past the depth are zero, so that the
+// An array with a depth, as there is no heap; changed in place, as it is too many bytes to copy at each bracket. What is past the depth is zero, so that the
 // list gives the fields back, as a copy asks.
 #[derive(Clone, Copy)]
 pub struct OpenBrackets {
@@ -76,9 +77,9 @@ impl Model for OpenBrackets {
 
     ghost view = { λ o. stacked o.closing o.depth };
 
-    ghost invariant = { λ o. (o.depth ≤ max_depth) × (o.closing ≡ slots (stacked o.closing o.depth)) };
+    ghost invariant = { λ o. (o.depth ≤ max_depth) × (o.closing ≡ array_of (stacked o.closing o.depth)) };
 
-    ghost inverse = { λ stack. record { closing = slots stack; depth = length stack } };
+    ghost inverse = { λ stack. record { closing = array_of stack; depth = length stack } };
 
     ghost inverse_ok = { λ o h i. record { closing = sym h.1 i; depth = length-stacked o.closing o.depth i } };
 }

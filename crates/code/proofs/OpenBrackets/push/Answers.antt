@@ -1,14 +1,14 @@
 -- `OpenBrackets::push`: a store at the depth, counted in, is a push of the list.
 use Rattle.std.proofs.Common.{rules, ◌<◌, refl, arith}
 use borrow.Author.Tests.{lt-ltb}
-use Rattle.code.specs.Bracket.{length-stacked}
-use Rattle.code.proofs.Stack.{stacked-push, slots-push}
+use Rattle.code.specs.Stack.{length-stacked}
+use Rattle.code.proofs.Stack.{stacked-push, array-push}
 use Rattle.code.proofs.OpenBrackets.push.Goals as goal
 
 pub invariant_of-self : goal.invariant_of-self
 invariant_of-self c =
     let i = c.self.inside in
-    (omega (arith, c.self.invariant.0), slots-push i.closing i.depth c.args.b (search rules) c.self.invariant.1)
+    (omega (arith, c.self.invariant.0), array-push i.closing i.depth c.args.b (search rules) c.self.invariant.1)
 
 pub returns-clause-value : goal.returns-clause-value
 returns-clause-value c =
