@@ -1,5 +1,6 @@
 -- `read_from` meets its contract: a start that goes on has its book, and of any other nothing is read.
-use Rattle.std.proofs.Common.{◌≡◌, Option, None, false, refl, sym, length}
+use Rattle.std.proofs.Common.{◌≡◌, Option, None, false, refl, sym, arith, length}
+use Rattle.std.proofs.lemmas.Grind.{common_steps}
 use Rattle.std.proofs.lemmas.Bool.{false≢true}
 use Rattle.std.specs.Option.{IsSome}
 use Rattle.clause.specs.declared.Progress.{Progress}
@@ -21,5 +22,5 @@ returns c = λ bytes j.
       | then-goes_on+in_default w ↦ without-book c.args.start.progress c.args.book c.requires.checked w.in_default.is
       | else-goes_on w ↦ sym w.if-goes_on.ensures
     ] in
-    rests-settled bytes c.args.text.now c.args.start (length c.args.records.now) c.answer.result c.fill.new.self rests c.requires.started.none_yet c.answer.ensures
-    (rw c.zero_record.ensures at (c.fill.ensures.after (λ y h. cc)))
+    let zeros = rw c.zero_record.ensures at (c.fill.ensures.after (λ y h. cc)) in
+    rests-settled bytes c.args.text.now c.args.start (length c.args.records.now) _ _ rests c.requires.started.none_yet (grind (arith, common_steps)) (grind (arith, common_steps, zeros))
